@@ -1,0 +1,10 @@
+// The readings of document 01 that are run and not proved, each with its answer number. What this writes is held to ../stdout.
+mod numbers;
+mod say;
+
+fn main() {
+    numbers::unsigned();
+    numbers::signed();
+    numbers::long();
+    numbers::printed();
+}
