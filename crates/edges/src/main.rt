@@ -1,4 +1,5 @@
 // The readings of document 01 that are run and not proved, each with its answer number. What this writes is held to ../stdout.
+mod fields;
 mod numbers;
 mod say;
 
@@ -7,4 +8,10 @@ fn main() {
     numbers::signed();
     numbers::long();
     numbers::printed();
+    fields::times();
+    fields::dates();
+    fields::coordinates();
+    fields::positions();
+    fields::made();
+    fields::extensions();
 }

@@ -29,11 +29,11 @@ pub fn print_part(p: Part, line: &[u8], buf: &mut [u8]) -> Printed
 {
     match p.find(line) {
         Found::Refused(no) => Printed::Refused(no),
-        Found::At(part) => {
-            if buf.len() < put_part(&mut [], 0, line, part) {
+        Found::At(_inside) => {
+            if buf.len() < put_part(&mut [], 0, line, p) {
                 return Printed::Refused(Refusal::NoRoom);
             }
-            Printed::Written(put_part(buf, 0, line, part))
+            Printed::Written(put_part(buf, 0, line, p))
         }
     }
 }

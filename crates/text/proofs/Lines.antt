@@ -6,7 +6,7 @@ use native.Mathlib.Omega.{arith}
 use lib.ListN.{length, take, drop, length-drop}
 use lib.Seq.{take-all}
 use Rattle.text.specs.Res.{Res, ok, no, guard, _≤?_}
-use Rattle.text.specs.Line.{bytesOf, findPart, partText, shown}
+use Rattle.text.specs.Line.{bytesOf, findPart, textOf, shown}
 use Rattle.text.specs.declared.part.Part.{Part}
 use Rattle.text.proofs.Steps.{is≤, on}
 use Rattle.text.proofs.Finds.{Finds, finds-ok, finds-guard}
@@ -27,12 +27,11 @@ find-inside p s = finds-guard _ (λ h. finds-ok (record { same = refl; ends = is
 pub inside : (p : Part) (s : List ℕ) {q : Part} → ok q ≡ findPart p s → Inside p s q
 inside p s {q} h = find-inside p s .found q (sym h)
 
--- the text of such a part
-pub text-inside : (p : Part) (s : List ℕ) {q : Part} → ok q ≡ findPart p s → ok (bytesOf q s) ≡ partText p s
-unfolding partText
-text-inside p s h = on _ h refl
-
--- it is found again
-pub inside-again : (p : Part) (s : List ℕ) {q : Part} → ok q ≡ findPart p s → shown (findPart q s) ≡ q
+-- what was found is what is shown, and its bytes are the text
+pub shown-found : {m : Res Part} {q : Part} → ok q ≡ m → shown m ≡ q
 unfolding shown
-inside-again p s h = rw (inside p s h .same, sym h) (inside p s h .same)
+shown-found h = rw (sym h)
+
+pub text-found : {m : Res Part} (s : List ℕ) {q : Part} → ok q ≡ m → ok (bytesOf (shown m) s) ≡ textOf m s
+unfolding textOf
+text-found s h = on _ h (ap (λ p. ok (bytesOf p s)) (shown-found h))

@@ -3,6 +3,7 @@ use Prim.Native.Nat.{ℕ, _≤_, _<_}
 use mathlib.Core.Path.{_≡_, refl, sym, ap, _∙_}
 use mathlib.Core.Bool.{Bool, true, false, not}
 use native.Mathlib.Omega.{arith}
+use lib.Dec.{leb}
 use borrow.Author.Tests.{le-leb, lt-leb, leb-true, leb-false, eq-eqb, ne-eqb, eqb-true, eqb-false, not-true, not-false}
 use Rattle.text.specs.Res.{Res, ok, no, bind, guard, pick, _≤?_, _=?_, _∧?_, _∨?_}
 use Rattle.text.specs.declared.refusal.Refusal.{Refusal}
@@ -76,9 +77,31 @@ is= h = eqb-true _ _ h
 pub never : {A : Type 0} {t : Bool} → t ≡ true → t ≡ false → A
 never p q = let z : _≡_ {A = ℕ} 0 1 = cc in let f : ⊥ = omega arith in absurd f
 
-pub and : {a b : Bool} → a ≡ true → b ≡ true → (a ∧? b) ≡ true
+-- a test of the code's, and what its answer tells of the definition's
+pub tested : (a b : ℕ) → (a ≤? b) ≡ leb a b
+unfolding _≤?_
+tested a b = refl
+
+pub so-true : {r t : Bool} → r ≡ t → not r ≡ false → t ≡ true
+so-true {r} e h = sym e ∙ not-false r h
+
+pub so-false : {r t : Bool} → r ≡ t → not r ≡ true → t ≡ false
+so-false {r} e h = sym e ∙ not-true r h
+
+-- ---- tests in a row
+
+-- the first fails
+pub fails : {a : Bool} (b : Bool) → a ≡ false → (a ∧? b) ≡ false
 unfolding _∧?_ pick
-and p q = rw (p, q)
+fails b p = rw p
+
+-- the first holds: go on with the others
+pub holds : {a b c : Bool} → a ≡ true → b ≡ c → (a ∧? b) ≡ c
+unfolding _∧?_ pick
+holds p q = rw p q
+
+pub and : {a b : Bool} → a ≡ true → b ≡ true → (a ∧? b) ≡ true
+and p q = holds p q
 
 pub both : {a b : Bool} → (a ∧? b) ≡ true → (a ≡ true) × (b ≡ true)
 unfolding _∧?_ pick

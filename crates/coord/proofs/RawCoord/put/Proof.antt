@@ -1,0 +1,14 @@
+use borrow.Author.Needs.{needs}
+use Rattle.print.proofs.Writing.{then}
+use Rattle.coord.specs.Coord.{coordText}
+use Rattle.coord.proofs.RawCoord.put.Statement.{statement}
+use Rattle.coord.proofs.RawCoord.put.Tie as tie
+
+-- the byte that is put last is the letter
+returns : tie.Need-returns
+unfolding coordText
+returns c = let l : tie.After-letter = search needs in rw (← l .letter .ensures) (search (then))
+
+pub put-spec : {M : Type 1} → statement M
+put-spec =
+    tie.close (tie.spec (search needs) (search needs) (search needs) (search needs) (search needs) (search needs) (search needs) returns)

@@ -1,0 +1,23 @@
+use borrow.Author.Needs.{needs}
+use Prim.Native.Nat.{ℕ}
+use mathlib.Core.Path.{_≡_, refl}
+use lib.Dec.{eqb}
+use Rattle.text.specs.Res.{_=?_, _∨?_}
+use Rattle.text.proofs.Steps.{first, second, yes=, no=}
+use Rattle.coord.proofs.one_of.Statement.{statement}
+use Rattle.coord.proofs.one_of.Tie as tie
+
+same : {a b c d : ℕ} → a ≡ b → c ≡ d → eqb a c ≡ (b =? d)
+unfolding _=?_
+same p q = rw (p, q)
+
+pub one-of-spec : {M : Type 1} → statement M
+unfolding _∨?_
+one-of-spec =
+    tie.close
+    (tie.spec
+    (search needs)
+    (search needs)
+    (λ c. first _ (yes= (search needs)) refl)
+    (search needs)
+    (λ c. second _ (no= (search needs)) (same (c .before .before .before .letter .ensures) (c .letter3 .ensures))))

@@ -1,0 +1,18 @@
+use borrow.Author.Needs.{needs}
+use mathlib.Core.Path.{_∙_}
+use Rattle.text.proofs.Steps.{so-true, so-false}
+use Rattle.field.proofs.Fields.{wrong-length, not-ascii, known}
+use Rattle.coord.specs.Coord.{positionIn, readPosition}
+use Rattle.coord.proofs.position.RawPosition.parse.Statement.{statement}
+use Rattle.coord.proofs.position.RawPosition.parse.Tie as tie
+
+pub parse-spec : {M : Type 1} → statement M
+unfolding readPosition positionIn
+parse-spec =
+    tie.close
+    (tie.spec
+    (λ c. wrong-length _ _ _ (search needs))
+    (search needs)
+    (λ c. not-ascii _ _ _ (search needs) (search (so-false)))
+    (search needs)
+    (λ c. c .parse-ascii .ensures ∙ known _ _ _ (search (so-true))))

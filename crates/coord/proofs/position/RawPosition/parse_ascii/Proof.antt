@@ -1,0 +1,52 @@
+use borrow.Author.Needs.{needs}
+use Prim.Native.Nat.{ℕ}
+use mathlib.Core.Path.{_≡_, refl}
+use mathlib.Core.List.{List}
+use denote.Ref.{now}
+use Rattle.text.specs.Res.{ok, no}
+use Rattle.text.proofs.Steps.{came, on, off, pass, stop, yes=, no=}
+use Rattle.field.specs.Field.{cut, columns, sized}
+use Rattle.coord.specs.Coord.{latitudeRes, longitudeRes, latitudeIn, longitudeIn, readBoth, positionIn}
+use Rattle.coord.proofs.position.RawPosition.parse_ascii.Statement.{statement}
+use Rattle.coord.proofs.position.RawPosition.parse_ascii.Tie as tie
+
+abbrev text : tie.Start → List ℕ
+text b = now (b .args .text)
+
+lat : (c : tie.After-north) → ok (c .north .given .0 .0) ≡ columns 0 8 latitudeIn (text (search needs))
+unfolding columns cut
+lat c = came latitudeRes (c .north .given .1) (c .before .before .parse-ascii .ensures)
+
+no-lat : (c : tie.After-no-lat) → no (c .no-lat .given .0 .0) ≡ columns 0 8 latitudeIn (text (search needs))
+unfolding columns cut
+no-lat c = came latitudeRes (c .no-lat .given .1) (c .before .before .parse-ascii .ensures)
+
+lon : (c : tie.After-lon) → ok (c .lon .given .0 .0) ≡ columns 8 17 longitudeIn (text (search needs))
+unfolding columns cut
+lon c = came longitudeRes (c .lon .given .1) (c .before .before .parse-ascii2 .ensures)
+
+no-lon : (c : tie.After-no-lon) → no (c .no-lon .given .0 .0) ≡ columns 8 17 longitudeIn (text (search needs))
+unfolding columns cut
+no-lon c = came longitudeRes (c .no-lon .given .1) (c .before .before .parse-ascii2 .ensures)
+
+pub parse-ascii-spec : {M : Type 1} → statement M
+unfolding positionIn sized readBoth
+parse-ascii-spec =
+    tie.close
+    (tie.spec
+    (λ c. stop _ (no= (search needs)))
+    (search needs)
+    (search needs)
+    (search needs)
+    (search needs)
+    (search needs)
+    (search needs)
+    (λ c. pass _ (yes= (search needs)) (off _ (no-lat (search needs))))
+    (search needs)
+    (search needs)
+    (search needs)
+    (search needs)
+    (search needs)
+    (search needs)
+    (λ c. pass _ (yes= (search needs)) (on _ (lat (search needs)) (on _ (lon (search needs)) refl)))
+    (λ c. pass _ (yes= (search needs)) (on _ (lat (search needs)) (off _ (no-lon (search needs))))))

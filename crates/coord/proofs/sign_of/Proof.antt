@@ -1,0 +1,17 @@
+use borrow.Author.Needs.{needs}
+use mathlib.Core.Path.{refl}
+use Rattle.text.proofs.Steps.{first, second, yes=, no=}
+use Rattle.coord.specs.Coord.{signOf}
+use Rattle.coord.proofs.sign_of.Statement.{statement}
+use Rattle.coord.proofs.sign_of.Tie as tie
+
+pub sign-of-spec : {M : Type 1} → statement M
+unfolding signOf
+sign-of-spec =
+    tie.close
+    (tie.spec
+    (search needs)
+    (λ c. first _ (yes= (search needs)) refl)
+    (search needs)
+    (λ c. second _ (no= (search needs)) (first _ (yes= (search needs)) refl))
+    (λ c. second _ (no= (search needs)) (second _ (no= (search needs)) refl)))

@@ -1,0 +1,144 @@
+-- Coordinates, and a position: latitude first.
+use Prim.Native.Nat.{ℕ, _+_}
+use mathlib.Core.List.{List, [], _∷_, _++_}
+use mathlib.Core.Bool.{Bool}
+use Rattle.text.specs.Res.{Res, ok, no, bind, guard, pick, _≤?_, _=?_, _∧?_, _∨?_}
+use Rattle.text.specs.Line.{byte}
+use Rattle.text.specs.Number.{readNat, padded}
+use Rattle.text.specs.declared.refusal.Refusal.the-variants.{Syntax, OutOfRange}
+use Rattle.field.specs.Field.{columns, sized, field}
+use Rattle.coord.specs.declared.Compass.{Compass}
+use Rattle.coord.specs.declared.Compass.the-variants.{North, South, East, West}
+use Rattle.coord.specs.declared.CompassRead.{CompassRead}
+use Rattle.coord.specs.declared.CompassRead.the-variants as compass
+use Rattle.coord.specs.declared.RawCoord.{RawCoord}
+use Rattle.coord.specs.declared.CoordRead.{CoordRead}
+use Rattle.coord.specs.declared.CoordRead.the-variants as coord
+use Rattle.coord.specs.declared.RawLatitude.{RawLatitude}
+use Rattle.coord.specs.declared.LatitudeRead.{LatitudeRead}
+use Rattle.coord.specs.declared.LatitudeRead.the-variants as lat
+use Rattle.coord.specs.declared.RawLongitude.{RawLongitude}
+use Rattle.coord.specs.declared.LongitudeRead.{LongitudeRead}
+use Rattle.coord.specs.declared.LongitudeRead.the-variants as lon
+use Rattle.coord.specs.declared.position.RawPosition.{RawPosition}
+use Rattle.coord.specs.declared.position.PositionRead.{PositionRead}
+use Rattle.coord.specs.declared.position.PositionRead.the-variants as pos
+
+-- N, S, E, W.
+unfoldable pub letterOf : Compass → ℕ
+letterOf North = 78
+letterOf South = 83
+letterOf East = 69
+letterOf West = 87
+
+-- x or y by its letter; 1 else.
+unfoldable pub signOf : Compass → Compass → ℕ → Res Compass
+signOf x y l = pick (l =? letterOf x) (ok x) (pick (l =? letterOf y) (ok y) (no Syntax))
+
+-- Degrees at most the limit, thousandths of a minute at most 60000; 4 else.
+unfoldable pub coordOf : ℕ → ℕ → ℕ → Compass → Res RawCoord
+coordOf limit g t sign =
+    guard ((g ≤? limit) ∧? (t ≤? 60000)) OutOfRange
+    (ok (record { degrees = g; «minute_thousandths» = t; sign = sign }))
+
+-- d characters of degrees, five of thousandths, a letter, and only then the range.
+unfoldable pub readCoord : ℕ → ℕ → Compass → Compass → List ℕ → Res RawCoord
+readCoord d limit x y s =
+    bind (columns 0 d (readNat 255) s) (λ g.
+    bind (columns d (d + 5) (readNat 65535) s) (λ t.
+    bind (signOf x y (byte (d + 5) s)) (λ sign.
+    coordOf limit g t sign)))
+
+-- Degrees at most the limit, thousandths below 60000, the letter of x or of y; 4 else.
+unfoldable pub newCoord : ℕ → Compass → Compass → ℕ → ℕ → Compass → Res RawCoord
+newCoord limit x y g t sign =
+    guard ((g ≤? limit) ∧? (t ≤? 59999) ∧? ((letterOf sign =? letterOf x) ∨? (letterOf sign =? letterOf y))) OutOfRange
+    (ok (record { degrees = g; «minute_thousandths» = t; sign = sign }))
+
+-- Degrees in width d, thousandths in width 5, the letter.
+unfoldable pub coordText : ℕ → RawCoord → List ℕ
+coordText d c = padded d (c .degrees) ++ (padded 5 (c .«minute_thousandths») ++ (letterOf (c .sign) ∷ []))
+
+-- By the book: thousandths below 60000.
+unfoldable pub coordBook : RawCoord → Bool
+coordBook c = c .«minute_thousandths» ≤? 59999
+
+-- ---- latitude and longitude, which are types apart
+
+unfoldable pub latitude : Res RawCoord → Res RawLatitude
+latitude m = bind m (λ c. ok (record { 0 = c }))
+
+unfoldable pub longitude : Res RawCoord → Res RawLongitude
+longitude m = bind m (λ c. ok (record { 0 = c }))
+
+-- DDMMMMMN: eight characters, two of degrees, N or S, at most 90.
+unfoldable pub readLatitude : List ℕ → Res RawLatitude
+readLatitude s = latitude (field 8 (readCoord 2 90 North South) s)
+
+-- DDDMMMMME: nine characters, three of degrees, E or W, at most 180.
+unfoldable pub readLongitude : List ℕ → Res RawLongitude
+readLongitude s = longitude (field 9 (readCoord 3 180 East West) s)
+
+-- The same in texts that are known to be ASCII.
+unfoldable pub latitudeIn : List ℕ → Res RawLatitude
+latitudeIn s = latitude (sized 8 (readCoord 2 90 North South) s)
+
+unfoldable pub longitudeIn : List ℕ → Res RawLongitude
+longitudeIn s = longitude (sized 9 (readCoord 3 180 East West) s)
+
+unfoldable pub newLatitude : ℕ → ℕ → Compass → Res RawLatitude
+newLatitude g t sign = latitude (newCoord 90 North South g t sign)
+
+unfoldable pub newLongitude : ℕ → ℕ → Compass → Res RawLongitude
+newLongitude g t sign = longitude (newCoord 180 East West g t sign)
+
+abbrev pub latitudeText : RawLatitude → List ℕ
+latitudeText l = coordText 2 (l .0)
+
+abbrev pub longitudeText : RawLongitude → List ℕ
+longitudeText l = coordText 3 (l .0)
+
+-- ---- a position
+
+-- Latitude, then longitude.
+unfoldable pub readBoth : List ℕ → Res RawPosition
+readBoth s =
+    bind (columns 0 8 latitudeIn s) (λ lat.
+    bind (columns 8 17 longitudeIn s) (λ lon.
+    ok (record { lat = lat; lon = lon })))
+
+-- A position of 17 characters.
+unfoldable pub readPosition : List ℕ → Res RawPosition
+readPosition = field 17 readBoth
+
+-- The same in a text that is known to be ASCII.
+unfoldable pub positionIn : List ℕ → Res RawPosition
+positionIn = sized 17 readBoth
+
+unfoldable pub positionText : RawPosition → List ℕ
+positionText p = latitudeText (p .lat) ++ longitudeText (p .lon)
+
+unfoldable pub positionBook : RawPosition → Bool
+positionBook p = coordBook (p .lat .0) ∧? coordBook (p .lon .0)
+
+-- ---- the answers of the code
+
+abbrev pub compassRes : CompassRead → Res Compass
+compassRes (compass.Ok v) = ok v
+compassRes (compass.Refused n) = no n
+
+abbrev pub coordRes : CoordRead → Res RawCoord
+coordRes (coord.Ok v) = ok v
+coordRes (coord.Refused n) = no n
+
+abbrev pub latitudeRes : LatitudeRead → Res RawLatitude
+latitudeRes (lat.Ok v) = ok v
+latitudeRes (lat.Refused n) = no n
+
+abbrev pub longitudeRes : LongitudeRead → Res RawLongitude
+longitudeRes (lon.Ok v) = ok v
+longitudeRes (lon.Refused n) = no n
+
+abbrev pub positionRes : PositionRead → Res RawPosition
+positionRes (pos.Ok v) = ok v
+positionRes (pos.Refused n) = no n

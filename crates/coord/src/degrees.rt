@@ -1,0 +1,64 @@
+// Degrees as floats, which in the Rust are conversions into f32 and f64.
+ghost use mathlib.Core.Path.{_≡_};
+ghost use lib.Ieee.{binary32, binary64};
+ghost use Rattle.coord.specs.Degrees.{degreesOf};
+use crate::Compass;
+use crate::RawCoord;
+use crate::RawLatitude;
+use crate::RawLongitude;
+
+impl RawCoord {
+    pub fn to_f32(self) -> f32
+        ensures { λ r. ⌜ r ≡ degreesOf binary32 self ⌝ }
+    {
+        let value = self.degrees as f32 + self.minute_thousandths as f32 / 60000.0;
+        let sign = self.sign;
+        match sign {
+            Compass::North => value,
+            Compass::East => value,
+            Compass::South => -value,
+            Compass::West => -value,
+        }
+    }
+
+    pub fn to_f64(self) -> f64
+        ensures { λ r. ⌜ r ≡ degreesOf binary64 self ⌝ }
+    {
+        let value = self.degrees as f64 + self.minute_thousandths as f64 / 60000.0;
+        let sign = self.sign;
+        match sign {
+            Compass::North => value,
+            Compass::East => value,
+            Compass::South => -value,
+            Compass::West => -value,
+        }
+    }
+}
+
+impl RawLatitude {
+    pub fn to_f32(self) -> f32
+        ensures { λ r. ⌜ r ≡ degreesOf binary32 (self .0) ⌝ }
+    {
+        self.0.to_f32()
+    }
+
+    pub fn to_f64(self) -> f64
+        ensures { λ r. ⌜ r ≡ degreesOf binary64 (self .0) ⌝ }
+    {
+        self.0.to_f64()
+    }
+}
+
+impl RawLongitude {
+    pub fn to_f32(self) -> f32
+        ensures { λ r. ⌜ r ≡ degreesOf binary32 (self .0) ⌝ }
+    {
+        self.0.to_f32()
+    }
+
+    pub fn to_f64(self) -> f64
+        ensures { λ r. ⌜ r ≡ degreesOf binary64 (self .0) ⌝ }
+    {
+        self.0.to_f64()
+    }
+}

@@ -1,0 +1,15 @@
+use borrow.Author.Needs.{needs}
+use mathlib.Core.Path.{refl}
+use Rattle.text.proofs.Steps.{pass, stop, yes≤, no≤, fails, holds}
+use Rattle.datetime.specs.Date.{dateOf}
+use Rattle.datetime.proofs.Date.within.Statement.{statement}
+use Rattle.datetime.proofs.Date.within.Tie as tie
+
+pub within-spec : {M : Type 1} → statement M
+unfolding dateOf
+within-spec =
+    tie.close
+    (tie.spec
+    (λ c. pass _ (holds (yes≤ (search needs)) (yes≤ (search needs))) refl)
+    (λ c. stop _ (holds (yes≤ (search needs)) (no≤ (search needs))))
+    (λ c. stop _ (fails _ (no≤ (search needs)))))

@@ -1,0 +1,15 @@
+use borrow.Author.Needs.{needs}
+use mathlib.Core.Path.{sym}
+use Rattle.text.proofs.Steps.{yes≤, no≤, fails, holds, tested}
+use Rattle.datetime.specs.Time.{timeBook}
+use Rattle.datetime.proofs.Time.by_the_book.Statement.{statement}
+use Rattle.datetime.proofs.Time.by_the_book.Tie as tie
+
+pub by-the-book-spec : {M : Type 1} → statement M
+unfolding timeBook
+by-the-book-spec =
+    tie.close
+    (tie.spec
+    (λ c. sym (fails _ (no≤ (search needs))))
+    (λ c. sym (holds (yes≤ (search needs)) (fails _ (no≤ (search needs)))))
+    (λ c. sym (holds (yes≤ (search needs)) (holds (yes≤ (search needs)) (tested _ _)))))

@@ -1,0 +1,3 @@
+pub mod Three
+pub mod Time
+pub mod Date

@@ -1,0 +1,84 @@
+// One definition of an extension, as the first half of src/records/extension.rs has it.
+ghost use mathlib.Core.Path.{_≡_};
+ghost use Rattle.text.specs.Res.{ok};
+ghost use Rattle.print.specs.Put.{Wrote};
+ghost use Rattle.print.specs.Print.{Prints};
+ghost use Rattle.extension.specs.Extension.{readExtension, newExtension, extensionText, extensionRes};
+use field::Mnemonic;
+use print::printed::Printed;
+use print::put::put_nat;
+use text::number::U8Read;
+use text::number::read_u8;
+use text::refusal::Refusal;
+
+// A named part of a line, from its first column to its last, counted from 1.
+pub struct Extension {
+    pub mnemonic: Mnemonic,
+    pub start_byte: u8,
+    pub end_byte: u8,
+}
+
+pub enum ExtensionRead {
+    Ok(Extension),
+    Refused(Refusal),
+}
+
+impl Extension {
+    // Stricter than reading, which takes an end equal to its start and any start.
+    pub fn new(mnemonic: Mnemonic, start: u8, end: u8) -> ExtensionRead
+        ensures { λ r. ⌜ extensionRes r ≡ newExtension mnemonic start end ⌝ }
+    {
+        if 3 <= start {
+            if start < end {
+                return ExtensionRead::Ok(Extension {
+                    mnemonic,
+                    start_byte: start,
+                    end_byte: end,
+                });
+            }
+        }
+        ExtensionRead::Refused(Refusal::BadExtension)
+    }
+
+    pub fn parse(text: &[u8]) -> ExtensionRead
+        ensures { λ r. ⌜ extensionRes r ≡ readExtension (now (text .entry)) ⌝ }
+    {
+        if text.len() != 7 {
+            return ExtensionRead::Refused(Refusal::Syntax);
+        }
+        let start = match read_u8(&text[0..2]) {
+            U8Read::Ok(from) => from,
+            U8Read::Refused(no_start) => return ExtensionRead::Refused(no_start),
+        };
+        let end = match read_u8(&text[2..4]) {
+            U8Read::Ok(to) => to,
+            U8Read::Refused(no_end) => return ExtensionRead::Refused(no_end),
+        };
+        if end < start {
+            return ExtensionRead::Refused(Refusal::BadExtension);
+        }
+        ExtensionRead::Ok(Extension {
+            mnemonic: Mnemonic(text[4], text[5], text[6]),
+            start_byte: start,
+            end_byte: end,
+        })
+    }
+
+    pub fn put(self, buf: &mut [u8], at: usize) -> usize
+        ensures { λ r. ⌜ Wrote (now (buf .entry)) at (extensionText self) (now (buf .exit)) r ⌝ }
+    {
+        let mnemonic = self.mnemonic;
+        let end = put_nat(buf, at, self.start_byte as u64, 2);
+        let name = put_nat(buf, end, self.end_byte as u64, 2);
+        mnemonic.put(buf, name)
+    }
+
+    pub fn print(self, buf: &mut [u8]) -> Printed
+        ensures { λ r. ⌜ Prints (ok (extensionText self)) (now (buf .entry)) (now (buf .exit)) r ⌝ }
+    {
+        if buf.len() < self.put(&mut [], 0) {
+            return Printed::Refused(Refusal::NoRoom);
+        }
+        Printed::Written(self.put(buf, 0))
+    }
+}

@@ -1,0 +1,25 @@
+-- The three ways in which a field's reading begins.
+use Prim.Native.Nat.{ℕ}
+use mathlib.Core.Path.{_≡_, sym, _∙_}
+use mathlib.Core.List.{List}
+use mathlib.Core.Bool.{true, false}
+use lib.ListN.{length}
+use Rattle.text.specs.Res.{Res, no, guard, _=?_}
+use Rattle.text.specs.declared.refusal.Refusal.the-variants.{NotAscii, WrongLength}
+use Rattle.text.proofs.Steps.{pass, stop, no=, yes=}
+use Rattle.field.specs.Field.{isAscii, sized, asciiIn, ascii, field}
+use Rattle.field.proofs.Ascii.{known-ascii}
+
+module _ {A : Type 0} (n : ℕ) (read : List ℕ → Res A) (s : List ℕ) where
+  pub wrong-length : (length s ≡ n → ⊥) → no WrongLength ≡ field n read s
+  unfolding field sized
+  wrong-length h = stop _ (no= h)
+
+  pub not-ascii : length s ≡ n → isAscii s ≡ false → no NotAscii ≡ field n read s
+  unfolding field sized ascii asciiIn
+  not-ascii l h = pass _ (yes= l) (stop _ h)
+
+  -- in an ASCII text the test says nothing
+  pub known : isAscii s ≡ true → sized n read s ≡ field n read s
+  unfolding field sized
+  known h = rw (known-ascii read s h)

@@ -1,0 +1,31 @@
+// What every field is read by: the test for ASCII, and three bytes by value.
+ghost use mathlib.Core.Path.{_≡_};
+ghost use Rattle.print.specs.Put.{Wrote};
+ghost use Rattle.field.specs.Field.{isAscii, mnemonicText};
+use print::put::put_byte;
+
+// Three bytes by value, where the Rust holds a `&str` of three characters.
+pub struct Mnemonic(pub u8, pub u8, pub u8);
+
+impl Mnemonic {
+    pub fn put(self, buf: &mut [u8], at: usize) -> usize
+        ensures { λ r. ⌜ Wrote (now (buf .entry)) at (mnemonicText self) (now (buf .exit)) r ⌝ }
+    {
+        let second = put_byte(buf, at, self.0);
+        let third = put_byte(buf, second, self.1);
+        put_byte(buf, third, self.2)
+    }
+}
+
+pub fn is_ascii(text: &[u8]) -> bool
+    ensures { λ r. ⌜ r ≡ isAscii (now (text .entry)) ⌝ }
+{
+    let mut i = 0;
+    while i < text.len() {
+        if 127 < text[i] {
+            return false;
+        }
+        i += 1;
+    }
+    true
+}

@@ -1,0 +1,23 @@
+use borrow.Author.Needs.{needs}
+use mathlib.Core.Path.{refl}
+use Rattle.manufacturer.specs.Maker.{letterOf}
+use Rattle.manufacturer.proofs.Arms.{at}
+use Rattle.manufacturer.proofs.Manufacturer.to_single_char.Statement.{statement}
+use Rattle.manufacturer.proofs.Manufacturer.to_single_char.Tie as tie
+
+pub to-single-char-spec : {M : Type 1} → statement M
+unfolding letterOf
+to-single-char-spec =
+    tie.close
+    (tie.spec
+    (search needs) (search needs) (search needs) (search needs) (search needs) (search needs) (search needs) (search needs)
+    (search needs) (search needs) (search needs) (search needs) (search needs) (search needs) (search needs) (search needs)
+    (search needs) (search needs) (search needs) (search needs) (search needs) (search needs) (search needs) (search needs)
+    (search needs)
+    (λ c. search (at letterOf)) (λ c. search (at letterOf)) (λ c. search (at letterOf)) (λ c. search (at letterOf)) (λ c. search (at letterOf))
+    (λ c. search (at letterOf)) (λ c. search (at letterOf)) (λ c. search (at letterOf)) (λ c. search (at letterOf)) (λ c. search (at letterOf))
+    (λ c. search (at letterOf)) (λ c. search (at letterOf)) (λ c. search (at letterOf)) (λ c. search (at letterOf)) (λ c. search (at letterOf))
+    (λ c. search (at letterOf)) (λ c. search (at letterOf)) (λ c. search (at letterOf)) (λ c. search (at letterOf)) (λ c. search (at letterOf))
+    (λ c. search (at letterOf)) (λ c. search (at letterOf)) (λ c. search (at letterOf))
+    (λ c. at letterOf (c .before .self .given .1) refl)
+    (λ c. search (at letterOf)))

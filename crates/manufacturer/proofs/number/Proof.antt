@@ -1,0 +1,13 @@
+use borrow.Author.Needs.{needs}
+use mathlib.Core.Path.{refl}
+use Rattle.manufacturer.specs.Maker.{numberOf}
+use Rattle.manufacturer.proofs.number.Statement.{statement}
+use Rattle.manufacturer.proofs.number.Tie as tie
+
+pub number-spec : {M : Type 1} → statement M
+unfolding numberOf
+number-spec =
+    tie.close
+    (tie.spec
+    (search needs) (search needs) (search needs) (search needs) (search needs) (search needs) (search needs)
+    (λ c. refl))

@@ -1,0 +1,13 @@
+-- A text as the bytes of its ASCII characters, so that readings can be written as document 01 writes them.
+use Prim.Native.Nat.{ℕ, zero, suc, _+_}
+use Prim.Native.Char.{code}
+use Prim.Native.String.{String, charAt, len}
+use mathlib.Core.List.{List, [], _∷_}
+
+unfoldable pub speltFrom : ℕ → ℕ → String → List ℕ
+speltFrom zero i s = []
+speltFrom (suc k) i s = code (charAt s i) ∷ speltFrom k (i + 1) s
+
+-- The bytes of a text.
+unfoldable pub spelt : String → List ℕ
+spelt s = speltFrom (len s) 0 s
