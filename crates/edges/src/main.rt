@@ -1,5 +1,6 @@
 // The readings of document 01 that are run and not proved, each with its answer number. What this writes is held to ../stdout.
 mod fields;
+mod lines;
 mod numbers;
 mod say;
 
@@ -14,4 +15,9 @@ fn main() {
     fields::positions();
     fields::made();
     fields::extensions();
+    lines::first();
+    lines::fixes();
+    lines::tables();
+    lines::tasks();
+    lines::values();
 }

@@ -1,1 +1,3 @@
 pub mod Extension
+pub mod Table
+pub mod Value

@@ -1,4 +1,7 @@
 // One definition of an extension, as the first half of src/records/extension.rs has it.
+pub mod table;
+pub mod value;
+
 ghost use mathlib.Core.Path.{_≡_};
 ghost use Rattle.text.specs.Res.{ok};
 ghost use Rattle.print.specs.Put.{Wrote};

@@ -1,31 +1,17 @@
--- ASCII: a turn of the loop over bytes, and parts of an ASCII text.
-use Prim.Native.Nat.{ℕ, zero, suc, _+_, _-_, _≤_, _<_}
-use mathlib.Core.Path.{_≡_, refl, sym, ap, _∙_}
+-- ASCII: every byte of it, and parts of an ASCII text.
+use Prim.Native.Nat.{ℕ, zero, suc, _-_}
+use mathlib.Core.Path.{_≡_, refl}
 use mathlib.Core.List.{List, [], _∷_}
-use mathlib.Core.Bool.{Bool, true, false}
-use native.Mathlib.Numerals.{add-one}
-use lib.ListN.{length, take, drop, getD}
-use lib.Seq.{drop-cons, drop-length}
-use Rattle.text.specs.Res.{Res, guard, pick, _≤?_, _∧?_}
-use Rattle.text.proofs.Steps.{yes≤, no≤, and, both, pass}
+use mathlib.Core.Bool.{true}
+use lib.ListN.{take, drop}
+use Rattle.text.specs.Res.{Res, guard, _≤?_, _∧?_}
+use Rattle.text.proofs.Steps.{and, both, pass}
 use Rattle.field.specs.Field.{isAscii, cut, asciiIn, ascii}
+use Rattle.field.proofs.Every.{Every}
 
-module _ (s : List ℕ) (i : ℕ) (inside : i < length s) (inv : isAscii (drop i s) ≡ isAscii s) where
-  here : ((getD s i 0 ≤? 127) ∧? isAscii (drop (i + 1) s)) ≡ isAscii s
-  unfolding isAscii
-  here = rw add-one (ap isAscii (sym (drop-cons s i 0 inside)) ∙ inv)
-
-  pub over : 127 < getD s i 0 → false ≡ isAscii s
-  unfolding _∧?_ pick
-  over h = rw (no≤ h) at here
-
-  pub next : getD s i 0 ≤ 127 → isAscii (drop (i + 1) s) ≡ isAscii s
-  unfolding _∧?_ pick
-  next h = rw (yes≤ h) at here
-
-pub done : (s : List ℕ) (i : ℕ) → i ≡ length s → isAscii (drop i s) ≡ isAscii s → true ≡ isAscii s
+pub every-ascii : Every (λ b. b ≤? 127) isAscii
 unfolding isAscii
-done s i e inv = rw (e, drop-length) at inv
+every-ascii = record { none = refl; more = λ b s. refl }
 
 -- ---- parts of an ASCII text are ASCII
 

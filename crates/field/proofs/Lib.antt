@@ -1,3 +1,4 @@
+pub mod Every
 pub mod Ascii
 pub mod Columns
 pub mod Fields

@@ -1,5 +1,6 @@
-// What every field is read by: the test for ASCII, and three bytes by value.
+// What every field is read by: tests of all its bytes, and three bytes by value.
 ghost use mathlib.Core.Path.{_≡_};
+ghost use Rattle.text.specs.Number.{isDigit, allDigits};
 ghost use Rattle.print.specs.Put.{Wrote};
 ghost use Rattle.field.specs.Field.{isAscii, mnemonicText};
 use print::put::put_byte;
@@ -28,4 +29,26 @@ pub fn is_ascii(text: &[u8]) -> bool
         i += 1;
     }
     true
+}
+
+pub fn all_digits(text: &[u8]) -> bool
+    ensures { λ r. ⌜ r ≡ allDigits (now (text .entry)) ⌝ }
+{
+    let mut i = 0;
+    while i < text.len() {
+        if !is_digit(text[i]) {
+            return false;
+        }
+        i += 1;
+    }
+    true
+}
+
+fn is_digit(b: u8) -> bool
+    ensures { λ r. ⌜ r ≡ isDigit b ⌝ }
+{
+    if b < 48 {
+        return false;
+    }
+    b <= 57
 }

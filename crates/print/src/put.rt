@@ -5,7 +5,7 @@ ghost use Prim.Native.Nat.{_+_, _-_};
 ghost use mathlib.Core.List.{[], _∷_};
 ghost use lib.ListN.{replicate};
 ghost use Rattle.text.specs.Number.{digits, placesOf, padded, signed};
-ghost use Rattle.text.specs.Line.{bytesOf, findPart, findMaybe, shown};
+ghost use Rattle.text.specs.Line.{partBytes, maybeBytes};
 ghost use Rattle.print.specs.Put.{place, Wrote, splitOf};
 use text::part::MaybePart;
 use text::part::Part;
@@ -48,7 +48,7 @@ pub fn put_bytes(buf: &mut [u8], at: usize, src: &[u8]) -> usize
 
 // A part of the line; where it lies outside, nothing.
 pub fn put_part(buf: &mut [u8], at: usize, line: &[u8], p: Part) -> usize
-    ensures { λ r. ⌜ Wrote (now (buf .entry)) at (bytesOf (shown (findPart p (now (line .entry)))) (now (line .entry))) (now (buf .exit)) r ⌝ }
+    ensures { λ r. ⌜ Wrote (now (buf .entry)) at (partBytes p (now (line .entry))) (now (buf .exit)) r ⌝ }
 {
     let part = p.view(line);
     put_bytes(buf, at, part)
@@ -56,7 +56,7 @@ pub fn put_part(buf: &mut [u8], at: usize, line: &[u8], p: Part) -> usize
 
 // A part that may be missing; where it is, nothing.
 pub fn put_maybe(buf: &mut [u8], at: usize, line: &[u8], p: MaybePart) -> usize
-    ensures { λ r. ⌜ Wrote (now (buf .entry)) at (bytesOf (shown (findMaybe p (now (line .entry)))) (now (line .entry))) (now (buf .exit)) r ⌝ }
+    ensures { λ r. ⌜ Wrote (now (buf .entry)) at (maybeBytes p (now (line .entry))) (now (buf .exit)) r ⌝ }
 {
     put_bytes(buf, at, p.view(line))
 }

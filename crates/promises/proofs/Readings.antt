@@ -1,23 +1,46 @@
 -- The starred readings hold, by computation.
 use mathlib.Core.Path.{refl}
-use Rattle.text.specs.Res.{bind, guard, pick, _≤?_, _=?_, _∧?_}
-use Rattle.text.specs.Number.{isDigit, allDigits, valueFrom, readDigits, readNat, readInt, digits, placesIn, placesOf, padded, signed}
-use Rattle.field.specs.Field.{isAscii, cut, columns, sized, asciiIn, ascii, field}
-use Rattle.datetime.specs.Three.{readThree}
-use Rattle.datetime.specs.Time.{timeOf, readTime, secondsOf}
+use Rattle.text.specs.Res.{bind, guard, pick, _≤?_, _=?_, _∧?_, _∨?_}
+use Rattle.text.specs.Line.{bytesOf, findPart, findMaybe, textOf, partText, maybeText, restFrom, nameFrom}
+use Rattle.text.specs.Number.{isDigit, allDigits, valueFrom, readDigits, readNat, readInt, digits, placesIn, placesOf, padded, signed, zeros}
+use Rattle.field.specs.Field.{isAscii, cut, columns, sized, asciiIn, ascii, field, mnemonicText}
+use Rattle.datetime.specs.Three.{readThree, threeText}
+use Rattle.datetime.specs.Time.{timeOf, readTime, timeText, secondsOf}
+use Rattle.datetime.specs.Date.{dateOf, readDate, dateText}
 use Rattle.coord.specs.Coord.{letterOf, signOf, coordOf, readCoord, latitude, readLatitude}
+use Rattle.manufacturer.specs.Maker as maker
+use Rattle.extension.specs.Extension.{readDefinition, readExtension}
+use Rattle.extension.specs.Table.{readDefs, readBody, readTable}
+use Rattle.extension.specs.Value.{findValue}
+use Rattle.a_record.specs.ARecord.{aNew, aOf, letterForm, longForm, readTriple, readA, tripleText, aBody, aText}
+use Rattle.c_record.specs.CRecord.{turns, readFlight, readTask, readDeclaration, flightText, taskText, declarationBody, declarationText}
+use Rattle.h_record.specs.HRecord.{sourceByte, sourceOf, colonIn, named, readH}
+use Rattle.records.specs.Record.{isNotTaken, kindOf, whole, readC, readKind, readLine, recordText}
 use Rattle.promises.specs.Spelt.{speltFrom, spelt}
-use Rattle.promises.specs.Starred.{Starred}
+use Rattle.promises.specs.Starred.{again, Starred}
 
 pub starred : Starred
 unfolding
-    bind guard pick _≤?_ _=?_ _∧?_ isDigit allDigits valueFrom readDigits readNat readInt digits placesIn placesOf padded signed isAscii cut columns sized asciiIn ascii field readThree timeOf readTime secondsOf letterOf signOf coordOf readCoord latitude readLatitude speltFrom spelt
+    bind guard pick _≤?_ _=?_ _∧?_ _∨?_ bytesOf findPart findMaybe textOf partText maybeText restFrom nameFrom isDigit allDigits valueFrom readDigits readNat readInt digits placesIn placesOf padded signed zeros isAscii cut columns sized asciiIn ascii field mnemonicText readThree threeText timeOf readTime timeText secondsOf dateOf readDate dateText letterOf signOf coordOf readCoord latitude readLatitude maker.letterOf maker.spelt maker.tripleOf maker.known maker.firstOf maker.isLetter maker.isTriple maker.letterMaker maker.tripleMaker readDefinition readExtension readDefs readBody readTable findValue aNew aOf letterForm longForm readTriple readA tripleText aBody aText turns readFlight readTask readDeclaration flightText taskText declarationBody declarationText sourceByte sourceOf colonIn named readH isNotTaken kindOf whole readC readKind readLine recordText speltFrom spelt again
 starred = record {
+  line-empty = refl;
+  line-HFFTY = refl;
+  line-HFFTY-colon = refl;
+  line-AC00069 = refl;
+  line-AX12345 = refl;
+  line-A12345 = refl;
+  line-AX123456 = refl;
+  line-A123456 = refl;
   time-246060 = refl;
   seconds-246060 = refl;
   time-250000 = refl;
   latitude-9060000N = refl;
   latitude-9060001N = refl;
   latitude-9065536N = refl;
+  flight-of-pluses = refl;
+  pluses-printed = refl;
+  flight-of-zeros = refl;
   height-minus-0000 = refl;
+  line-I013836FXA = refl;
+  value-36-38 = refl;
 }

@@ -54,6 +54,13 @@ unfoldable pub shown : Res Part → Part
 shown (ok p) = p
 shown (no n) = record { start = 0; len = 0 }
 
+-- The bytes that a view hands out.
+abbrev pub partBytes : Part → List ℕ → List ℕ
+partBytes p s = bytesOf (shown (findPart p s)) s
+
+abbrev pub maybeBytes : MaybePart → List ℕ → List ℕ
+maybeBytes p s = bytesOf (shown (findMaybe p s)) s
+
 -- The slice r is that part of the lent line: its bytes, where they lie.
 pub record Shows (line : RefT (List ℕ)) (p : Part) (r : RefT (List ℕ)) : Type 0 where
   pub bytes : now r ≡ bytesOf p (now line)

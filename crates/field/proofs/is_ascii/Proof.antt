@@ -2,8 +2,10 @@ use Prim.Native.Nat.{_≤_, _-_}
 use mathlib.Core.Path.{_≡_}
 use borrow.Author.Needs.{needs}
 use lib.ListN.{length, drop}
+use Rattle.text.proofs.Steps.{yes≤, no≤}
 use Rattle.field.specs.Field.{isAscii}
-use Rattle.field.proofs.Ascii.{over, next, done}
+use Rattle.field.proofs.Every.{over, next, done}
+use Rattle.field.proofs.Ascii.{every-ascii}
 use Rattle.field.proofs.is_ascii.Statement.{statement}
 use Rattle.field.proofs.is_ascii.Tie as tie
 
@@ -15,13 +17,13 @@ abbrev μ-loop : tie.MeasureT-loop
 μ-loop text i₀ i = length text - i
 
 returns : tie.Need-returns Inv-loop μ-loop
-returns c = let l = c .before .before .before .loop in over _ (l .i) (search needs) (l .inv .1) (search needs)
+returns c = let l = c .before .before .before .loop in over every-ascii _ (l .i) (search needs) (l .inv .1) (no≤ (search needs))
 
 loop-again : tie.Need-loop-again Inv-loop μ-loop
-loop-again c = let l = c .before .before .before .loop in (search needs, next _ (l .i) (search needs) (l .inv .1) (search needs))
+loop-again c = let l = c .before .before .before .loop in (search needs, next every-ascii _ (l .i) (search needs) (l .inv .1) (yes≤ (search needs)))
 
 ends : tie.Need-returns-2 Inv-loop μ-loop
-ends c = done _ (c .before .loop .i) (search needs) (c .before .loop .inv .1)
+ends c = done every-ascii _ (c .before .loop .i) (search needs) (c .before .loop .inv .1)
 
 pub is-ascii-spec : {M : Type 1} → statement M
 is-ascii-spec = tie.close (tie.spec Inv-loop μ-loop (search needs) (search needs) returns (search needs) (search needs) loop-again ends)

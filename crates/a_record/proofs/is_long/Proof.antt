@@ -1,0 +1,19 @@
+use borrow.Author.Needs.{needs}
+use mathlib.Core.Path.{sym}
+use Rattle.text.proofs.Steps.{fails, holds, yes≤, no≤}
+use Rattle.field.specs.Field.{cut}
+use Rattle.a_record.specs.ARecord.{longForm}
+use Rattle.a_record.proofs.is_long.Statement.{statement}
+use Rattle.a_record.proofs.is_long.Tie as tie
+
+pub is-long-spec : {M : Type 1} → statement M
+unfolding longForm cut
+is-long-spec =
+    tie.close
+    (tie.spec
+    (λ c. sym (fails _ (no≤ (search needs))))
+    (search needs)
+    (search needs)
+    (search needs)
+    (search needs)
+    (λ c. sym (holds (yes≤ (search needs)) (sym (c .all-digits .ensures)))))

@@ -1,0 +1,158 @@
+// A lines, as src/records/a_record.rs has them.
+ghost use mathlib.Core.Path.{_≡_};
+ghost use Prim.Native.Nat.{_+_, _≤_};
+ghost use lib.ListN.{length};
+ghost use Rattle.text.specs.Line.{findPart, findMaybe, partBytes, maybeBytes, shown, Shows};
+ghost use Rattle.print.specs.Put.{Wrote};
+ghost use Rattle.print.specs.Print.{Prints};
+ghost use Rattle.manufacturer.specs.Maker.{tripleOf};
+ghost use Rattle.a_record.specs.ARecord.{aNew, aOf, longForm, readTriple, readA, tripleText, aBody, aText, aRes};
+use field::Mnemonic;
+use field::all_digits;
+use field::is_ascii;
+use manufacturer::Manufacturer;
+use manufacturer::MaybeTriple;
+use print::printed::Printed;
+use print::put::put_byte;
+use print::put::put_maybe;
+use print::put::put_part;
+use text::part::Found;
+use text::part::MaybePart;
+use text::part::Part;
+use text::refusal::Refusal;
+
+pub struct ARecord {
+    pub unique_id: Part,
+    pub id_extension: MaybePart,
+    pub manufacturer: Manufacturer,
+}
+
+pub enum ARead {
+    Ok(ARecord),
+    Refused(Refusal),
+}
+
+// At least 9 bytes, the last five of them digits.
+fn is_long(line: &[u8]) -> bool
+    ensures { λ r. ⌜ r ≡ longForm (now (line .entry)) ⌝ }
+{
+    if line.len() < 9 {
+        return false;
+    }
+    all_digits(&line[4..9])
+}
+
+fn put_triple(m: Manufacturer, buf: &mut [u8], at: usize) -> usize
+    ensures { λ r. ⌜ Wrote (now (buf .entry)) at (tripleText (tripleOf m)) (now (buf .exit)) r ⌝ }
+{
+    match m.to_triple_char() {
+        MaybeTriple::Triple(triple) => triple.put(buf, at),
+        MaybeTriple::Missing => at,
+    }
+}
+
+impl ARecord {
+    pub fn new(manufacturer: Manufacturer, id: Part, extension: MaybePart) -> ARecord
+        ensures { λ r. ⌜ r ≡ aNew manufacturer id extension ⌝ }
+    {
+        ARecord {
+            unique_id: id,
+            id_extension: extension,
+            manufacturer,
+        }
+    }
+
+    // A maker, an id of `len` bytes from `start` on, and what stands behind it.
+    fn with_id(line: &[u8], manufacturer: Manufacturer, start: usize, len: usize) -> ARecord
+        requires { ⌜ start + len ≤ 9 ⌝ }
+        ensures { λ r. ⌜ r ≡ aOf (now (line .entry)) manufacturer start len ⌝ }
+    {
+        let end = start + len;
+        ARecord::new(
+            manufacturer,
+            Part { start, len },
+            MaybePart::from_column(end, line),
+        )
+    }
+
+    // The two forms with a triple.
+    fn parse_triple(line: &[u8]) -> ARead
+        requires { ⌜ 7 ≤ length (now line) ⌝ }
+        ensures { λ r. ⌜ aRes r ≡ readTriple (now (line .entry)) ⌝ }
+    {
+        let maker = Manufacturer::parse_triple_char(Mnemonic(line[1], line[2], line[3]));
+        if is_long(line) {
+            if is_ascii(&line[0..4]) {
+                return ARead::Ok(ARecord::with_id(line, maker, 4, 5));
+            }
+            return ARead::Refused(Refusal::NotAscii);
+        }
+        if is_ascii(&line[0..7]) {
+            return ARead::Ok(ARecord::with_id(line, maker, 4, 3));
+        }
+        ARead::Refused(Refusal::NotAscii)
+    }
+
+    pub fn parse(line: &[u8]) -> ARead
+        ensures { λ r. ⌜ aRes r ≡ readA (now (line .entry)) ⌝ }
+    {
+        if line.len() < 7 {
+            return ARead::Refused(Refusal::Syntax);
+        }
+        if all_digits(&line[2..7]) {
+            let letter = line[1];
+            if 127 < letter {
+                return ARead::Refused(Refusal::NotAscii);
+            }
+            let maker = Manufacturer::parse_single_char(letter);
+            return ARead::Ok(ARecord::with_id(line, maker, 2, 5));
+        }
+        ARecord::parse_triple(line)
+    }
+
+    // The id and the rest, each as a part of the caller's own line.
+    pub fn unique_id(self, line: &[u8]) -> &[u8]
+        ensures { λ r. ⌜ Shows (line .entry) (shown (findPart (self .«unique_id») (now (line .entry)))) r ⌝ }
+    {
+        let id = self.unique_id;
+        id.view(line)
+    }
+
+    pub fn id_extension(self, line: &[u8]) -> &[u8]
+        ensures { λ r. ⌜ Shows (line .entry) (shown (findMaybe (self .«id_extension») (now (line .entry)))) r ⌝ }
+    {
+        let rest = self.id_extension;
+        rest.view(line)
+    }
+
+    pub fn put(self, line: &[u8], buf: &mut [u8], at: usize) -> usize
+        ensures { λ r. ⌜ Wrote (now (buf .entry)) at (aBody self (partBytes (self .«unique_id») (now (line .entry))) (maybeBytes (self .«id_extension») (now (line .entry)))) (now (buf .exit)) r ⌝ }
+    {
+        let maker = self.manufacturer;
+        let id = self.unique_id;
+        let rest = self.id_extension;
+        let triple = put_byte(buf, at, b'A');
+        let number = put_triple(maker, buf, triple);
+        let end = put_part(buf, number, line, id);
+        put_maybe(buf, end, line, rest)
+    }
+
+    pub fn print(self, line: &[u8], buf: &mut [u8]) -> Printed
+        ensures { λ r. ⌜ Prints (aText self (now (line .entry))) (now (buf .entry)) (now (buf .exit)) r ⌝ }
+    {
+        let id = self.unique_id;
+        let rest = self.id_extension;
+        match id.find(line) {
+            Found::Refused(no_id) => Printed::Refused(no_id),
+            Found::At(_id) => match rest.find(line) {
+                Found::Refused(no_rest) => Printed::Refused(no_rest),
+                Found::At(_rest) => {
+                    if buf.len() < self.put(line, &mut [], 0) {
+                        return Printed::Refused(Refusal::NoRoom);
+                    }
+                    Printed::Written(self.put(line, buf, 0))
+                }
+            },
+        }
+    }
+}

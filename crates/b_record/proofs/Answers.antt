@@ -1,0 +1,10 @@
+-- Any two answers that a contract permits are equal: each view tells its answer.
+use mathlib.Core.Path.{_≡_, refl}
+use Rattle.text.proofs.Answers.{made}
+use Rattle.b_record.specs.BRecord.{bRes}
+use Rattle.b_record.specs.declared.BRead.{BRead}
+use Rattle.b_record.specs.declared.BRead.the-variants as b
+
+pub b-undone : (r : BRead) → made b.Ok b.Refused (bRes r) ≡ r
+b-undone (b.Ok v) = refl
+b-undone (b.Refused n) = refl

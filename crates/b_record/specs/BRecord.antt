@@ -1,0 +1,88 @@
+-- B lines: fixes.
+use Prim.Native.Nat.{ℕ}
+use mathlib.Core.List.{List, [], _∷_, _++_}
+use mathlib.Core.Bool.{Bool}
+use lib.ListN.{length}
+use Rattle.text.specs.Res.{Res, ok, no, bind, guard, pick, _≤?_, _=?_, _∧?_}
+use Rattle.text.specs.Line.{byte, restFrom, partText}
+use Rattle.text.specs.Number.{readInt, signed}
+use Rattle.text.specs.declared.refusal.Refusal.the-variants.{Syntax, NotAscii}
+use Rattle.field.specs.Field.{columns, ascii}
+use Rattle.datetime.specs.Time.{readTime, timeText, timeBook}
+use Rattle.coord.specs.Coord.{readPosition, positionText, positionBook}
+use Rattle.b_record.specs.declared.FixValid.{FixValid}
+use Rattle.b_record.specs.declared.FixValid.the-variants.{Valid, NavWarning}
+use Rattle.b_record.specs.declared.FixRead.{FixRead}
+use Rattle.b_record.specs.declared.FixRead.the-variants as fix
+use Rattle.b_record.specs.declared.Heights.{Heights}
+use Rattle.b_record.specs.declared.HeightsRead.{HeightsRead}
+use Rattle.b_record.specs.declared.HeightsRead.the-variants as heights
+use Rattle.b_record.specs.declared.BRecord.{BRecord}
+use Rattle.b_record.specs.declared.BRead.{BRead}
+use Rattle.b_record.specs.declared.BRead.the-variants as b
+
+-- A, V.
+unfoldable pub fixLetter : FixValid → ℕ
+fixLetter Valid = 65
+fixLetter NavWarning = 86
+
+-- A or V by its letter; 1 else.
+unfoldable pub fixOf : ℕ → Res FixValid
+fixOf l = pick (l =? fixLetter Valid) (ok Valid) (pick (l =? fixLetter NavWarning) (ok NavWarning) (no Syntax))
+
+-- Pressure height 25-30, GPS height 30-35.
+unfoldable pub readHeights : List ℕ → Res Heights
+readHeights s =
+    bind (columns 25 30 (readInt 32767) s) (λ pressure.
+    bind (columns 30 35 (readInt 32767) s) (λ gps.
+    ok (record { pressure = record { 0 = pressure }; gps = record { 0 = gps } })))
+
+-- Time 1-7, position 7-24, A or V at 24, the heights, and the rest.
+unfoldable pub readFix : List ℕ → Res BRecord
+readFix s =
+    bind (columns 1 7 readTime s) (λ time.
+    bind (columns 7 24 readPosition s) (λ pos.
+    bind (fixOf (byte 24 s)) (λ valid.
+    bind (readHeights s) (λ heights.
+    ok (record {
+      timestamp = time;
+      pos = pos;
+      «fix_valid» = valid;
+      «pressure_alt» = heights .pressure;
+      «gps_alt» = heights .gps;
+      rest = restFrom 35 s;
+    })))))
+
+-- Under 35 bytes 1; the whole line ASCII (2); then the fields.
+unfoldable pub readB : List ℕ → Res BRecord
+readB s = guard (35 ≤? length s) Syntax (ascii readFix s)
+
+-- A or V, the heights in width 5, and the rest.
+unfoldable pub fixText : BRecord → List ℕ → List ℕ
+fixText r rest = (fixLetter (r .«fix_valid») ∷ []) ++ (signed 5 (r .«pressure_alt» .0) ++ (signed 5 (r .«gps_alt» .0) ++ rest))
+
+-- The letter, time, position, and these.
+unfoldable pub bBody : BRecord → List ℕ → List ℕ
+bBody r rest = (66 ∷ []) ++ (timeText (r .timestamp) ++ (positionText (r .pos) ++ fixText r rest))
+
+-- The text of a record beside its line; 9 where the rest lies outside.
+unfoldable pub bText : BRecord → List ℕ → Res (List ℕ)
+bText r s = bind (partText (r .rest) s) (λ rest. ok (bBody r rest))
+
+-- By the book: its time and its position are.
+unfoldable pub bBook : BRecord → Bool
+bBook r = timeBook (r .timestamp) ∧? positionBook (r .pos)
+
+-- ---- the answers of the code
+
+abbrev pub fixRes : FixRead → Res FixValid
+fixRes (fix.Ok v) = ok v
+fixRes (fix.Refused n) = no n
+
+abbrev pub heightsRes : HeightsRead → Res Heights
+heightsRes (heights.Ok v) = ok v
+heightsRes (heights.Refused n) = no n
+
+abbrev pub bRes : BRead → Res BRecord
+bRes (b.Ok v) = ok v
+bRes (b.Refused n) = no n

@@ -1,0 +1,218 @@
+// B lines, as src/records/b_record.rs has them.
+ghost use mathlib.Core.Path.{_≡_};
+ghost use Prim.Native.Nat.{_≤_};
+ghost use lib.ListN.{length};
+ghost use Rattle.text.specs.Line.{findPart, partBytes, shown, Shows, foundRes};
+ghost use Rattle.extension.specs.Value.{findValue};
+ghost use Rattle.print.specs.Put.{Wrote};
+ghost use Rattle.print.specs.Print.{Prints};
+ghost use Rattle.b_record.specs.BRecord.{fixLetter, fixOf, readHeights, readFix, readB, fixText, bBody, bText, bBook, fixRes, heightsRes, bRes};
+use coord::position::PositionRead;
+use coord::position::RawPosition;
+use datetime::Time;
+use datetime::TimeRead;
+use extension::Extension;
+use field::is_ascii;
+use print::printed::Printed;
+use print::put::put_byte;
+use print::put::put_i16;
+use print::put::put_part;
+use text::number::I16Read;
+use text::number::read_i16;
+use text::part::Found;
+use text::part::Part;
+use text::refusal::Refusal;
+
+pub enum FixValid {
+    Valid,
+    NavWarning,
+}
+
+// A height on the pressure datum. No place that wants a GPS height takes it.
+pub struct PressureAlt(pub i16);
+
+// A height from GPS. No place that wants a pressure height takes it.
+pub struct GpsAlt(pub i16);
+
+pub struct BRecord {
+    pub rest: Part,
+    pub pos: RawPosition,
+    pub pressure_alt: PressureAlt,
+    pub gps_alt: GpsAlt,
+    pub timestamp: Time,
+    pub fix_valid: FixValid,
+}
+
+struct Heights {
+    pressure: PressureAlt,
+    gps: GpsAlt,
+}
+
+enum FixRead {
+    Ok(FixValid),
+    Refused(Refusal),
+}
+
+enum HeightsRead {
+    Ok(Heights),
+    Refused(Refusal),
+}
+
+pub enum BRead {
+    Ok(BRecord),
+    Refused(Refusal),
+}
+
+impl FixValid {
+    pub fn letter(self) -> u8
+        ensures { λ r. ⌜ r ≡ fixLetter self ⌝ }
+    {
+        match self {
+            FixValid::Valid => b'A',
+            FixValid::NavWarning => b'V',
+        }
+    }
+}
+
+fn fix_of(letter: u8) -> FixRead
+    ensures { λ r. ⌜ fixRes r ≡ fixOf letter ⌝ }
+{
+    match letter {
+        b'A' => FixRead::Ok(FixValid::Valid),
+        b'V' => FixRead::Ok(FixValid::NavWarning),
+        _ => FixRead::Refused(Refusal::Syntax),
+    }
+}
+
+// The two heights, each in its own column and of its own type. Small, so that a fix goes through no other function.
+fn read_heights(line: &[u8]) -> HeightsRead
+    requires { ⌜ 35 ≤ length (now line) ⌝ }
+    ensures { λ r. ⌜ heightsRes r ≡ readHeights (now (line .entry)) ⌝ }
+{
+    let pressure = match read_i16(&line[25..30]) {
+        I16Read::Ok(by_pressure) => by_pressure,
+        I16Read::Refused(no_pressure) => return HeightsRead::Refused(no_pressure),
+    };
+    match read_i16(&line[30..35]) {
+        I16Read::Ok(by_gps) => HeightsRead::Ok(Heights {
+            pressure: PressureAlt(pressure),
+            gps: GpsAlt(by_gps),
+        }),
+        I16Read::Refused(no_gps) => HeightsRead::Refused(no_gps),
+    }
+}
+
+impl BRecord {
+    pub const BASE_LENGTH: usize = 35;
+
+    pub fn parse(line: &[u8]) -> BRead
+        ensures { λ r. ⌜ bRes r ≡ readB (now (line .entry)) ⌝ }
+    {
+        if line.len() < BRecord::BASE_LENGTH {
+            return BRead::Refused(Refusal::Syntax);
+        }
+        if !is_ascii(line) {
+            return BRead::Refused(Refusal::NotAscii);
+        }
+        let timestamp = match Time::parse_ascii(&line[1..7]) {
+            TimeRead::Ok(time) => time,
+            TimeRead::Refused(no_time) => return BRead::Refused(no_time),
+        };
+        let pos = match RawPosition::parse_ascii(&line[7..24]) {
+            PositionRead::Ok(place) => place,
+            PositionRead::Refused(no_place) => return BRead::Refused(no_place),
+        };
+        let fix_valid = match fix_of(line[24]) {
+            FixRead::Ok(valid) => valid,
+            FixRead::Refused(no_fix) => return BRead::Refused(no_fix),
+        };
+        match read_heights(line) {
+            HeightsRead::Ok(heights) => {
+                let pressure_alt = heights.pressure;
+                let gps_alt = heights.gps;
+                BRead::Ok(BRecord {
+                    rest: Part::from_column(BRecord::BASE_LENGTH, line),
+                    pos,
+                    pressure_alt,
+                    gps_alt,
+                    timestamp,
+                    fix_valid,
+                })
+            }
+            HeightsRead::Refused(no_heights) => BRead::Refused(no_heights),
+        }
+    }
+
+    // The bytes after the fixed columns, as a part of the caller's own line.
+    pub fn rest(self, line: &[u8]) -> &[u8]
+        ensures { λ r. ⌜ Shows (line .entry) (shown (findPart (self .rest) (now (line .entry)))) r ⌝ }
+    {
+        let rest = self.rest;
+        rest.view(line)
+    }
+
+    // Where the value of an extension stands in the line.
+    pub fn find_extension(self, extension: Extension, line: &[u8]) -> Found
+        ensures { λ r. ⌜ foundRes r ≡ findValue 35 (self .rest) extension (now (line .entry)) ⌝ }
+    {
+        let rest = self.rest;
+        extension.find(BRecord::BASE_LENGTH, rest, line)
+    }
+
+    // The value itself, as a part of the caller's own line.
+    pub fn get_extension(self, extension: Extension, line: &[u8]) -> &[u8]
+        ensures { λ r. ⌜ Shows (line .entry) (shown (findValue 35 (self .rest) extension (now (line .entry)))) r ⌝ }
+    {
+        let rest = self.rest;
+        extension.get_extension(BRecord::BASE_LENGTH, rest, line)
+    }
+
+    pub fn by_the_book(self) -> bool
+        ensures { λ r. ⌜ r ≡ bBook self ⌝ }
+    {
+        let timestamp = self.timestamp;
+        let pos = self.pos;
+        if timestamp.by_the_book() {
+            return pos.by_the_book();
+        }
+        false
+    }
+
+    // From the fix's letter on.
+    fn put_fix(self, line: &[u8], buf: &mut [u8], at: usize) -> usize
+        ensures { λ r. ⌜ Wrote (now (buf .entry)) at (fixText self (partBytes (self .rest) (now (line .entry)))) (now (buf .exit)) r ⌝ }
+    {
+        let fix_valid = self.fix_valid;
+        let rest = self.rest;
+        let pressure = put_byte(buf, at, fix_valid.letter());
+        let gps = put_i16(buf, pressure, self.pressure_alt.0, 5);
+        let end = put_i16(buf, gps, self.gps_alt.0, 5);
+        put_part(buf, end, line, rest)
+    }
+
+    pub fn put(self, line: &[u8], buf: &mut [u8], at: usize) -> usize
+        ensures { λ r. ⌜ Wrote (now (buf .entry)) at (bBody self (partBytes (self .rest) (now (line .entry)))) (now (buf .exit)) r ⌝ }
+    {
+        let timestamp = self.timestamp;
+        let pos = self.pos;
+        let time = put_byte(buf, at, b'B');
+        let place = timestamp.put(buf, time);
+        let fix = pos.put(buf, place);
+        self.put_fix(line, buf, fix)
+    }
+
+    pub fn print(self, line: &[u8], buf: &mut [u8]) -> Printed
+        ensures { λ r. ⌜ Prints (bText self (now (line .entry))) (now (buf .entry)) (now (buf .exit)) r ⌝ }
+    {
+        let rest = self.rest;
+        match rest.find(line) {
+            Found::Refused(no) => Printed::Refused(no),
+            Found::At(_inside) => {
+                if buf.len() < self.put(line, &mut [], 0) {
+                    return Printed::Refused(Refusal::NoRoom);
+                }
+                Printed::Written(self.put(line, buf, 0))
+            }
+        }
+    }
+}

@@ -1,0 +1,100 @@
+use borrow.Author.Needs.{needs}
+use Prim.Native.Nat.{ℕ}
+use mathlib.Core.Path.{_≡_}
+use mathlib.Core.Bool.{true}
+use mathlib.Core.List.{List}
+use denote.Ref.{now}
+use mir.Syntax.{w8}
+use mir.Val.{toZ, ofZ}
+use lib.ListN.{length}
+use Rattle.text.specs.Res.{ok, no, _≤?_}
+use Rattle.text.proofs.Steps.{came, on, off, pass, stop, yes≤, no≤, so-true, so-false}
+use Rattle.field.specs.Field.{cut, columns, isAscii, asciiIn}
+use Rattle.datetime.specs.Date.{readDate, dateRes}
+use Rattle.datetime.specs.Time.{readTime, timeRes}
+use Rattle.c_record.specs.CRecord.{readFlight, readTask, readDeclaration, flightRes, taskRes}
+use Rattle.c_record.proofs.CRecordDeclaration.parse.Statement.{statement}
+use Rattle.c_record.proofs.CRecordDeclaration.parse.Tie as tie
+
+abbrev line : tie.Start → List ℕ
+line b = now (b .args .line)
+
+long : (c : tie.Else1) → (25 ≤? length (line (search needs))) ≡ true
+long c = yes≤ (c .if1 .left)
+
+ascii : (c : tie.Else2) → isAscii (cut 0 25 (line (search needs))) ≡ true
+unfolding cut
+ascii c = so-true (c .before .is-ascii .ensures) (c .if2 .left)
+
+date : (c : tie.After-day) → ok (c .day .given .0 .0) ≡ columns 1 7 readDate (line (search needs))
+unfolding columns cut
+date c = came dateRes (c .day .given .1) (c .before .before .parse .ensures)
+
+no-date : (c : tie.After-no-date) → no (c .no-date .given .0 .0) ≡ columns 1 7 readDate (line (search needs))
+unfolding columns cut
+no-date c = came dateRes (c .no-date .given .1) (c .before .before .parse .ensures)
+
+time : (c : tie.After-moment) → ok (c .moment .given .0 .0) ≡ columns 7 13 readTime (line (search needs))
+unfolding columns cut
+time c = came timeRes (c .moment .given .1) (c .before .before .parse2 .ensures)
+
+no-time : (c : tie.After-no-time) → no (c .no-time .given .0 .0) ≡ columns 7 13 readTime (line (search needs))
+unfolding columns cut
+no-time c = came timeRes (c .no-time .given .1) (c .before .before .parse2 .ensures)
+
+flight : (c : tie.After-flight) → ok (c .flight .given .0 .0) ≡ columns 13 19 readFlight (line (search needs))
+unfolding columns cut
+flight c = came flightRes (c .flight .given .1) (c .before .before .read-flight .ensures)
+
+no-flight : (c : tie.After-no-flight) → no (c .no-flight .given .0 .0) ≡ columns 13 19 readFlight (line (search needs))
+unfolding columns cut
+no-flight c = came flightRes (c .no-flight .given .1) (c .before .before .read-flight .ensures)
+
+task : (c : tie.After-task) → ok (c .task .given .0 .0) ≡ readTask (line (search needs))
+task c = came taskRes (c .task .given .1) (c .before .before .read-task .ensures)
+
+no-task : (c : tie.After-no-task) → no (c .no-task .given .0 .0) ≡ readTask (line (search needs))
+no-task c = came taskRes (c .no-task .given .1) (c .before .before .read-task .ensures)
+
+-- the count as the machine holds it
+count : (c : tie.After-struct-told) → let t : tie.After-task = search needs in let z = t .task .given .0 .0 .count in toZ w8 (ofZ w8 z) ≡ z
+count c = search needs
+
+pub parse-spec : {M : Type 1} → statement M
+unfolding readDeclaration asciiIn cut
+parse-spec =
+    tie.close
+    (tie.spec
+    (λ c. stop _ (no≤ (search needs)))
+    (search needs)
+    (search needs)
+    (search needs)
+    (search needs)
+    (λ c. pass _ (long (search needs)) (stop _ (so-false (c .before .is-ascii .ensures) (c .if2 .taken))))
+    (search needs)
+    (search needs)
+    (search needs)
+    (search needs)
+    (search needs)
+    (search needs)
+    (λ c. pass _ (long (search needs)) (pass _ (ascii (search needs)) (off _ (no-date (search needs)))))
+    (search needs)
+    (search needs)
+    (search needs)
+    (search needs)
+    (search needs)
+    (search needs)
+    (λ c. pass _ (long (search needs)) (pass _ (ascii (search needs)) (on _ (date (search needs)) (off _ (no-time (search needs))))))
+    (search needs)
+    (search needs)
+    (search needs)
+    (search needs)
+    (search needs)
+    (search needs)
+    (λ c. pass _ (long (search needs)) (pass _ (ascii (search needs)) (on _ (date (search needs)) (on _ (time (search needs)) (off _ (no-flight (search needs)))))))
+    (search needs)
+    (search needs)
+    (search needs)
+    (search needs)
+    (λ c. pass _ (long (search needs)) (pass _ (ascii (search needs)) (on _ (date (search needs)) (on _ (time (search needs)) (on _ (flight (search needs)) (on _ (task (search needs)) (rw (c .before .from-column .ensures, count c))))))))
+    (λ c. pass _ (long (search needs)) (pass _ (ascii (search needs)) (on _ (date (search needs)) (on _ (time (search needs)) (on _ (flight (search needs)) (off _ (no-task (search needs)))))))))

@@ -1,0 +1,49 @@
+use borrow.Author.Needs.{needs}
+use Prim.Native.Nat.{ℕ}
+use mathlib.Core.Path.{_≡_}
+use mathlib.Core.Bool.{true}
+use mathlib.Core.List.{List}
+use denote.Ref.{now}
+use Rattle.text.specs.Res.{ok, no}
+use Rattle.text.proofs.Steps.{came, on, off, pass, stop, yes≤, no≤, so-true, so-false}
+use Rattle.field.specs.Field.{cut, columns, isAscii, asciiIn}
+use Rattle.coord.specs.Coord.{readPosition, positionRes}
+use Rattle.c_record.specs.CRecord.{readTurnpoint}
+use Rattle.c_record.proofs.CRecordTurnpoint.parse.Statement.{statement}
+use Rattle.c_record.proofs.CRecordTurnpoint.parse.Tie as tie
+
+abbrev line : tie.Start → List ℕ
+line b = now (b .args .line)
+
+ascii : (c : tie.Else2) → isAscii (cut 0 18 (line (search needs))) ≡ true
+unfolding cut
+ascii c = search (so-true)
+
+position : (c : tie.After-position) → ok (c .position .given .0 .0) ≡ columns 1 18 readPosition (line (search needs))
+unfolding columns cut
+position c = came positionRes (c .position .given .1) (c .before .before .parse .ensures)
+
+no-position : (c : tie.After-no-position) → no (c .no-position .given .0 .0) ≡ columns 1 18 readPosition (line (search needs))
+unfolding columns cut
+no-position c = came positionRes (c .no-position .given .1) (c .before .before .parse .ensures)
+
+pub parse-spec : {M : Type 1} → statement M
+unfolding readTurnpoint asciiIn cut
+parse-spec =
+    tie.close
+    (tie.spec
+    (λ c. stop _ (no≤ (search needs)))
+    (search needs)
+    (search needs)
+    (search needs)
+    (search needs)
+    (λ c. pass _ (yes≤ (search needs)) (stop _ (search (so-false))))
+    (search needs)
+    (search needs)
+    (search needs)
+    (search needs)
+    (search needs)
+    (search needs)
+    (search needs)
+    (λ c. pass _ (yes≤ (search needs)) (pass _ (ascii (search needs)) (on _ (position (search needs)) (rw (c .from-column .ensures)))))
+    (λ c. pass _ (yes≤ (search needs)) (pass _ (ascii (search needs)) (off _ (no-position (search needs))))))

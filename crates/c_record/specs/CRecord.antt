@@ -1,0 +1,124 @@
+-- C lines: a task's declaration and its turnpoints.
+use Prim.Native.Nat.{ℕ}
+use mathlib.Core.List.{List, [], _∷_, _++_}
+use mathlib.Core.Bool.{Bool, true, false}
+use lib.ListN.{length}
+use Rattle.text.specs.Res.{Res, ok, no, bind, guard, pick, _≤?_, _=?_, _∧?_, _∨?_}
+use Rattle.text.specs.Line.{byte, nameFrom, maybeText}
+use Rattle.text.specs.Number.{readNat, readInt, padded, signed, zeros}
+use Rattle.text.specs.declared.refusal.Refusal.the-variants.{Syntax}
+use Rattle.field.specs.Field.{cut, columns, asciiIn}
+use Rattle.datetime.specs.Time.{readTime, timeText, timeBook}
+use Rattle.datetime.specs.Date.{readDate, dateText, dateBook}
+use Rattle.datetime.specs.declared.Date.{Date}
+use Rattle.coord.specs.Coord.{readPosition, positionText, positionBook}
+use Rattle.c_record.specs.declared.MaybeDate.{MaybeDate}
+use Rattle.c_record.specs.declared.MaybeDate.the-variants.{Missing, On}
+use Rattle.c_record.specs.declared.FlightRead.{FlightRead}
+use Rattle.c_record.specs.declared.FlightRead.the-variants as flight
+use Rattle.c_record.specs.declared.Task.{Task}
+use Rattle.c_record.specs.declared.TaskRead.{TaskRead}
+use Rattle.c_record.specs.declared.TaskRead.the-variants as task
+use Rattle.c_record.specs.declared.CRecordDeclaration.{CRecordDeclaration}
+use Rattle.c_record.specs.declared.DeclarationRead.{DeclarationRead}
+use Rattle.c_record.specs.declared.DeclarationRead.the-variants as declaration
+use Rattle.c_record.specs.declared.CRecordTurnpoint.{CRecordTurnpoint}
+use Rattle.c_record.specs.declared.TurnpointRead.{TurnpointRead}
+use Rattle.c_record.specs.declared.TurnpointRead.the-variants as turnpoint
+
+-- N or S at column 8 makes a turnpoint.
+unfoldable pub turns : List ℕ → Bool
+turns s = (byte 8 s =? 78) ∨? (byte 8 s =? 83)
+
+-- ---- declarations
+
+-- A flight date; `000000` is none.
+unfoldable pub readFlight : List ℕ → Res MaybeDate
+readFlight s = pick (zeros s) (ok Missing) (bind (readDate s) (λ d. ok (On d)))
+
+-- Task 19-23, count 23-25.
+unfoldable pub readTask : List ℕ → Res Task
+readTask s =
+    bind (columns 19 23 (readNat 65535) s) (λ id.
+    bind (columns 23 25 (readInt 127) s) (λ count.
+    ok (record { id = id; count = count })))
+
+-- 25 bytes (1), those ASCII (2), date 1-7, time 7-13, flight date 13-19, task, count, name; an empty name is none.
+unfoldable pub readDeclaration : List ℕ → Res CRecordDeclaration
+readDeclaration s =
+    guard (25 ≤? length s) Syntax
+    (asciiIn (cut 0 25 s)
+    (bind (columns 1 7 readDate s) (λ date.
+    bind (columns 7 13 readTime s) (λ time.
+    bind (columns 13 19 readFlight s) (λ flight.
+    bind (readTask s) (λ task.
+    ok (record {
+      date = date;
+      time = time;
+      «flight_date» = flight;
+      «task_id» = task .id;
+      «turnpoint_count» = task .count;
+      «task_name» = nameFrom 25 s;
+    })))))))
+
+unfoldable pub flightText : MaybeDate → List ℕ
+flightText Missing = 48 ∷ 48 ∷ 48 ∷ 48 ∷ 48 ∷ 48 ∷ []
+flightText (On d) = dateText d
+
+-- Flight date, task in width 4, count in 2, name.
+unfoldable pub taskText : CRecordDeclaration → List ℕ → List ℕ
+taskText r name = flightText (r .«flight_date») ++ (padded 4 (r .«task_id») ++ (signed 2 (r .«turnpoint_count») ++ name))
+
+-- The letter, date, time, and these.
+unfoldable pub declarationBody : CRecordDeclaration → List ℕ → List ℕ
+declarationBody r name = (67 ∷ []) ++ (dateText (r .date) ++ (timeText (r .time) ++ taskText r name))
+
+-- The text of a declaration beside its line; 9 where the name lies outside.
+unfoldable pub declarationText : CRecordDeclaration → List ℕ → Res (List ℕ)
+declarationText r s = bind (maybeText (r .«task_name») s) (λ name. ok (declarationBody r name))
+
+-- No flight date passes.
+unfoldable pub flightBook : MaybeDate → Bool
+flightBook Missing = true
+flightBook (On d) = dateBook d
+
+unfoldable pub declarationBook : CRecordDeclaration → Bool
+declarationBook r = dateBook (r .date) ∧? timeBook (r .time) ∧? flightBook (r .«flight_date»)
+
+-- ---- turnpoints
+
+-- 18 bytes (1), those ASCII (2), position 1-18, name; an empty name is none.
+unfoldable pub readTurnpoint : List ℕ → Res CRecordTurnpoint
+readTurnpoint s =
+    guard (18 ≤? length s) Syntax
+    (asciiIn (cut 0 18 s)
+    (bind (columns 1 18 readPosition s) (λ pos.
+    ok (record { position = pos; «turnpoint_name» = nameFrom 18 s }))))
+
+-- The letter, the position, the name.
+unfoldable pub turnpointBody : CRecordTurnpoint → List ℕ → List ℕ
+turnpointBody r name = (67 ∷ []) ++ (positionText (r .position) ++ name)
+
+unfoldable pub turnpointText : CRecordTurnpoint → List ℕ → Res (List ℕ)
+turnpointText r s = bind (maybeText (r .«turnpoint_name») s) (λ name. ok (turnpointBody r name))
+
+unfoldable pub turnpointBook : CRecordTurnpoint → Bool
+turnpointBook r = positionBook (r .position)
+
+-- ---- the answers of the code
+
+abbrev pub flightRes : FlightRead → Res MaybeDate
+flightRes (flight.Ok v) = ok v
+flightRes (flight.Refused n) = no n
+
+abbrev pub taskRes : TaskRead → Res Task
+taskRes (task.Ok v) = ok v
+taskRes (task.Refused n) = no n
+
+abbrev pub declarationRes : DeclarationRead → Res CRecordDeclaration
+declarationRes (declaration.Ok v) = ok v
+declarationRes (declaration.Refused n) = no n
+
+abbrev pub turnpointRes : TurnpointRead → Res CRecordTurnpoint
+turnpointRes (turnpoint.Ok v) = ok v
+turnpointRes (turnpoint.Refused n) = no n

@@ -1,0 +1,97 @@
+// "Lines" and "Extension values": each line is read and printed again.
+use crate::say;
+use b_record::BRead;
+use b_record::BRecord;
+use extension::Extension;
+use extension::table::Table;
+use field::Mnemonic;
+use records::Reading;
+use records::Record;
+use text::part::Found;
+
+fn answer(record: Record, table: Table, text: &[u8]) {
+    io::print_decimal(1, record.number() as u64);
+    io::write_all(1, b" ");
+    let mut buf = [b'.'; 48];
+    let p = record.print(table, text, &mut buf);
+    say::printed(p, &buf);
+}
+
+fn line(text: &[u8]) {
+    say::asked(b"line", text);
+    match Record::parse_line(text) {
+        Reading::Accepted(record) => answer(record, Table::parse(text).table, text),
+        Reading::Refused(no) => say::refused(no),
+    }
+}
+
+fn value(start: u8, end: u8) {
+    let text = b"B1015304712345N01102500EA0152301561035";
+    let def = Extension {
+        mnemonic: Mnemonic(b'F', b'X', b'A'),
+        start_byte: start,
+        end_byte: end,
+    };
+    match BRecord::parse(text) {
+        BRead::Ok(b) => {
+            say::asked(b"value", b.get_extension(def, text));
+            match b.find_extension(def, text) {
+                Found::At(_) => io::write_all(1, b"0\n"),
+                Found::Refused(no) => {
+                    say::refused(no);
+                    true
+                }
+            }
+            ;
+        }
+        BRead::Refused(no) => say::refused(no),
+    }
+}
+
+pub fn first() {
+    line(b"");
+    line(b"AFLA123");
+    line(b"A\xffFIL01460FLIGHT:1");
+    line(b"HFFTYFRTYPE:X");
+    line(b"HFDTE020119\xe9");
+    line(b"K1015301234");
+    line(b"LXXXcomment");
+    line(b"zzz");
+    line(b"\xff");
+}
+
+pub fn fixes() {
+    line(b"B1015304712345N01102500EA0152301561035");
+    line(b"B1015314712345N01102500EA01523x1561035");
+    line(b"B1015304712345N01102500EA+001200012");
+    line(b"B1015304712345N01102500EA3276800012");
+    line(b"B1015304712345N01102500EA-0042-0000");
+    line(b"B1015304712345N01102500EX0152301561");
+    line(b"B1015304712345N01102500EA015230156");
+    line(b"B1015304712345N01102500EV0152301561\xe9");
+}
+
+pub fn tables() {
+    line(b"I00");
+    line(b"I01");
+    line(b"I0x");
+    line(b"I013638FXA");
+    line(b"J020810WDI1113WVE");
+    line(b"I013636FXAx");
+}
+
+pub fn tasks() {
+    line(b"C2307180");
+    line(b"C230718092044000000000204Foo task");
+    line(b"C2307180920440000000002-0");
+    line(b"C5111359N00101899WLashamClubhouse");
+    line(b"C5111359N0010189");
+}
+
+pub fn values() {
+    value(36, 38);
+    value(35, 38);
+    value(36, 39);
+    value(38, 36);
+    value(37, 37);
+}

@@ -1,0 +1,2 @@
+pub mod Colons
+pub mod Answers

@@ -1,0 +1,25 @@
+use borrow.Author.Needs.{needs}
+use mathlib.Core.Path.{_≡_}
+use native.Mathlib.Omega.{arith}
+use Rattle.text.specs.Line.{findMaybe}
+use Rattle.text.specs.declared.part.MaybePart.the-variants.{At}
+use Rattle.print.proofs.Writing.{then, nothing}
+use Rattle.h_record.specs.HRecord.{nameText}
+use Rattle.h_record.proofs.put_name.Statement.{statement}
+use Rattle.h_record.proofs.put_name.Tie as tie
+
+there : (c : tie.After-name) → c .before .before .before .before .args .name ≡ At (c .name .given .0 .0)
+there c = c .name .given .1
+
+pub put-name-spec : {M : Type 1} → statement M
+unfolding nameText findMaybe
+put-name-spec =
+    tie.close
+    (tie.spec
+    (search needs)
+    (search needs)
+    (search needs)
+    (search needs)
+    (λ c. rw (c .enum-told .given .1) (nothing _ _ (omega arith) (omega arith)))
+    (search needs)
+    (λ c. rw (there (search needs)) (search (then))))

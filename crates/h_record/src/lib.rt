@@ -1,0 +1,197 @@
+// H lines, as src/records/h_record.rs has them.
+ghost use mathlib.Core.Path.{_≡_};
+ghost use Prim.Native.Nat.{_+_, _≤_};
+ghost use lib.ListN.{length, drop};
+ghost use Rattle.text.specs.Line.{findPart, findMaybe, partBytes, maybeBytes, shown, Shows};
+ghost use Rattle.print.specs.Put.{Wrote};
+ghost use Rattle.print.specs.Print.{Prints};
+ghost use Rattle.h_record.specs.HRecord.{sourceByte, sourceOf, colonIn, named, readH, charText, nameText, dataText, hBody, hText, hRes};
+use field::is_ascii;
+use print::printed::Printed;
+use print::put::put_byte;
+use print::put::put_part;
+use text::part::Found;
+use text::part::MaybePart;
+use text::part::Part;
+use text::refusal::Refusal;
+
+pub enum DataSource {
+    FVU,
+    OfficialObserver,
+    Pilot,
+    Unrecognized(u8),
+}
+
+pub struct HRecord {
+    pub mnemonic: Part,
+    pub friendly_name: MaybePart,
+    pub data: Part,
+    pub data_source: DataSource,
+}
+
+pub enum HRead {
+    Ok(HRecord),
+    Refused(Refusal),
+}
+
+impl DataSource {
+    pub fn from_byte(byte: u8) -> DataSource
+        ensures { λ r. ⌜ r ≡ sourceOf byte ⌝ }
+    {
+        match byte {
+            b'F' => DataSource::FVU,
+            b'O' => DataSource::OfficialObserver,
+            b'P' => DataSource::Pilot,
+            other => DataSource::Unrecognized(other),
+        }
+    }
+
+    pub fn to_byte(self) -> u8
+        ensures { λ r. ⌜ r ≡ sourceByte self ⌝ }
+    {
+        match self {
+            DataSource::FVU => b'F',
+            DataSource::OfficialObserver => b'O',
+            DataSource::Pilot => b'P',
+            DataSource::Unrecognized(byte) => byte,
+        }
+    }
+}
+
+// The column of the first colon from column 5 on, or the line's length where there is none.
+fn colon(line: &[u8]) -> usize
+    requires { ⌜ 5 ≤ length (now line) ⌝ }
+    ensures { λ r. ⌜ r ≡ 5 + colonIn (drop 5 (now (line .entry))) ⌝ }
+{
+    let mut i = 5;
+    while i < line.len() {
+        if line[i] == b':' {
+            return i;
+        }
+        i += 1;
+    }
+    i
+}
+
+// A character as Rust's `char` prints: a source of 128 or more, built by hand, takes two bytes.
+fn put_char(b: u8, buf: &mut [u8], at: usize) -> usize
+    ensures { λ r. ⌜ Wrote (now (buf .entry)) at (charText b) (now (buf .exit)) r ⌝ }
+{
+    if b <= 127 {
+        return put_byte(buf, at, b);
+    }
+    let next = put_byte(buf, at, 192 + b / 64);
+    put_byte(buf, next, 128 + b % 64)
+}
+
+// A name with its colon; nothing where there is no name.
+fn put_name(name: MaybePart, line: &[u8], buf: &mut [u8], at: usize) -> usize
+    ensures { λ r. ⌜ Wrote (now (buf .entry)) at (nameText name (maybeBytes name (now (line .entry)))) (now (buf .exit)) r ⌝ }
+{
+    match name {
+        MaybePart::Missing => at,
+        MaybePart::At(p) => {
+            let colon = put_part(buf, at, line, p);
+            put_byte(buf, colon, b':')
+        }
+    }
+}
+
+impl HRecord {
+    pub fn parse(line: &[u8]) -> HRead
+        ensures { λ r. ⌜ hRes r ≡ readH (now (line .entry)) ⌝ }
+    {
+        if line.len() < 6 {
+            return HRead::Refused(Refusal::Syntax);
+        }
+        if !is_ascii(&line[0..5]) {
+            return HRead::Refused(Refusal::NotAscii);
+        }
+        let data_source = DataSource::from_byte(line[1]);
+        let mnemonic = Part { start: 2, len: 3 };
+        let c = colon(line);
+        if c == line.len() {
+            return HRead::Ok(HRecord {
+                mnemonic,
+                friendly_name: MaybePart::Missing,
+                data: Part::from_column(5, line),
+                data_source,
+            });
+        }
+        HRead::Ok(HRecord {
+            mnemonic,
+            friendly_name: MaybePart::At(Part {
+                start: 5,
+                len: c - 5,
+            }),
+            data: Part::from_column(c + 1, line),
+            data_source,
+        })
+    }
+
+    // The mnemonic, the name and the data, each as a part of the caller's own line.
+    pub fn mnemonic(self, line: &[u8]) -> &[u8]
+        ensures { λ r. ⌜ Shows (line .entry) (shown (findPart (self .mnemonic) (now (line .entry)))) r ⌝ }
+    {
+        let mnemonic = self.mnemonic;
+        mnemonic.view(line)
+    }
+
+    pub fn friendly_name(self, line: &[u8]) -> &[u8]
+        ensures { λ r. ⌜ Shows (line .entry) (shown (findMaybe (self .«friendly_name») (now (line .entry)))) r ⌝ }
+    {
+        let name = self.friendly_name;
+        name.view(line)
+    }
+
+    pub fn data(self, line: &[u8]) -> &[u8]
+        ensures { λ r. ⌜ Shows (line .entry) (shown (findPart (self .«data») (now (line .entry)))) r ⌝ }
+    {
+        let data = self.data;
+        data.view(line)
+    }
+
+    // The name with its colon, and the data.
+    fn put_data(self, line: &[u8], buf: &mut [u8], at: usize) -> usize
+        ensures { λ r. ⌜ Wrote (now (buf .entry)) at (dataText self (maybeBytes (self .«friendly_name») (now (line .entry))) (partBytes (self .«data») (now (line .entry)))) (now (buf .exit)) r ⌝ }
+    {
+        let name = self.friendly_name;
+        let data = self.data;
+        let next = put_name(name, line, buf, at);
+        put_part(buf, next, line, data)
+    }
+
+    pub fn put(self, line: &[u8], buf: &mut [u8], at: usize) -> usize
+        ensures { λ r. ⌜ Wrote (now (buf .entry)) at (hBody self (partBytes (self .mnemonic) (now (line .entry))) (maybeBytes (self .«friendly_name») (now (line .entry))) (partBytes (self .«data») (now (line .entry)))) (now (buf .exit)) r ⌝ }
+    {
+        let mnemonic = self.mnemonic;
+        let source = self.data_source;
+        let first = put_byte(buf, at, b'H');
+        let second = put_char(source.to_byte(), buf, first);
+        let third = put_part(buf, second, line, mnemonic);
+        self.put_data(line, buf, third)
+    }
+
+    pub fn print(self, line: &[u8], buf: &mut [u8]) -> Printed
+        ensures { λ r. ⌜ Prints (hText self (now (line .entry))) (now (buf .entry)) (now (buf .exit)) r ⌝ }
+    {
+        let mnemonic = self.mnemonic;
+        let name = self.friendly_name;
+        let data = self.data;
+        match mnemonic.find(line) {
+            Found::Refused(no_mnemonic) => Printed::Refused(no_mnemonic),
+            Found::At(_mnemonic) => match name.find(line) {
+                Found::Refused(no_name) => Printed::Refused(no_name),
+                Found::At(_name) => match data.find(line) {
+                    Found::Refused(no_data) => Printed::Refused(no_data),
+                    Found::At(_data) => {
+                        if buf.len() < self.put(line, &mut [], 0) {
+                            return Printed::Refused(Refusal::NoRoom);
+                        }
+                        Printed::Written(self.put(line, buf, 0))
+                    }
+                },
+            },
+        }
+    }
+}

@@ -1,0 +1,110 @@
+-- Lines of every kind: an empty line is 1, then the first byte chooses.
+use Prim.Native.Nat.{ℕ}
+use mathlib.Core.Bool.{Bool, true}
+use mathlib.Core.List.{List}
+use lib.ListN.{length}
+use Rattle.text.specs.Res.{Res, ok, no, bind, guard, pick, numberOf, _≤?_, _=?_, _∨?_}
+use Rattle.text.specs.Line.{byte, partText}
+use Rattle.text.specs.declared.refusal.Refusal.the-variants.{Syntax}
+use Rattle.text.specs.declared.part.Part.{Part}
+use Rattle.extension.specs.Table.{readTable, tableText}
+use Rattle.extension.specs.declared.table.Table.{Table}
+use Rattle.a_record.specs.ARecord.{readA, aText}
+use Rattle.b_record.specs.BRecord.{readB, bText, bBook}
+use Rattle.c_record.specs.CRecord.{turns, readDeclaration, declarationText, declarationBook, readTurnpoint, turnpointText, turnpointBook}
+use Rattle.h_record.specs.HRecord.{readH, hText}
+use Rattle.records.specs.declared.Kind.{Kind}
+use Rattle.records.specs.declared.Kind.the-variants as kind
+use Rattle.records.specs.declared.Record.{Record}
+use Rattle.records.specs.declared.Record.the-variants as rec
+use Rattle.records.specs.declared.Reading.{Reading}
+use Rattle.records.specs.declared.Reading.the-variants as reading
+
+-- D, E, F, G, K and L are not taken.
+unfoldable pub isNotTaken : ℕ → Bool
+isNotTaken b = (b =? 68) ∨? (b =? 69) ∨? (b =? 70) ∨? (b =? 71) ∨? (b =? 75) ∨? (b =? 76)
+
+-- The kind of line that a first byte chooses.
+unfoldable pub kindOf : ℕ → Kind
+kindOf b =
+    pick (b =? 65) kind.A
+    (pick (b =? 66) kind.B
+    (pick (b =? 67) kind.C
+    (pick (b =? 72) kind.H
+    (pick (b =? 73) kind.I
+    (pick (b =? 74) kind.J
+    (pick (isNotTaken b) kind.NotTaken
+    kind.Other))))))
+
+-- The whole line.
+unfoldable pub whole : List ℕ → Part
+whole s = record { start = 0; len = length s }
+
+-- Under 9 bytes 1; N or S at column 8 makes a turnpoint, otherwise a declaration.
+unfoldable pub readC : List ℕ → Res Record
+readC s =
+    guard (9 ≤? length s) Syntax
+    (pick (turns s)
+    (bind (readTurnpoint s) (λ r. ok (rec.CTurnpoint r)))
+    (bind (readDeclaration s) (λ r. ok (rec.CDeclaration r))))
+
+-- A line of a kind.
+unfoldable pub readKind : Kind → List ℕ → Res Record
+readKind kind.A s = bind (readA s) (λ r. ok (rec.A r))
+readKind kind.B s = bind (readB s) (λ r. ok (rec.B r))
+readKind kind.C s = readC s
+readKind kind.H s = bind (readH s) (λ r. ok (rec.H r))
+readKind kind.I s = bind (readTable s) (λ ds. ok rec.I)
+readKind kind.J s = bind (readTable s) (λ ds. ok rec.J)
+readKind kind.NotTaken s = ok (rec.NotTaken (whole s))
+readKind kind.Other s = ok (rec.Unrecognised (whole s))
+
+unfoldable pub readLine : List ℕ → Res Record
+readLine s = guard (1 ≤? length s) Syntax (readKind (kindOf (byte 0 s)) s)
+
+-- The text of a record beside its table and its line; 11 and 12 print as the line itself.
+unfoldable pub recordText : Record → Table → List ℕ → Res (List ℕ)
+recordText (rec.A r) t s = aText r s
+recordText (rec.B r) t s = bText r s
+recordText (rec.CDeclaration r) t s = declarationText r s
+recordText (rec.CTurnpoint r) t s = turnpointText r s
+recordText (rec.H r) t s = hText r s
+recordText rec.I t s = tableText 73 t
+recordText rec.J t s = tableText 74 t
+recordText (rec.NotTaken p) t s = partText p s
+recordText (rec.Unrecognised p) t s = partText p s
+
+-- By the book: times, dates and positions are; other kinds say yes.
+unfoldable pub recordBook : Record → Bool
+recordBook (rec.A r) = true
+recordBook (rec.B r) = bBook r
+recordBook (rec.CDeclaration r) = declarationBook r
+recordBook (rec.CTurnpoint r) = turnpointBook r
+recordBook (rec.H r) = true
+recordBook rec.I = true
+recordBook rec.J = true
+recordBook (rec.NotTaken p) = true
+recordBook (rec.Unrecognised p) = true
+
+-- The paper's number of an accepted record: 0, or 11 and 12, which are answers too.
+unfoldable pub acceptedAs : Record → ℕ
+acceptedAs (rec.A r) = 0
+acceptedAs (rec.B r) = 0
+acceptedAs (rec.CDeclaration r) = 0
+acceptedAs (rec.CTurnpoint r) = 0
+acceptedAs (rec.H r) = 0
+acceptedAs rec.I = 0
+acceptedAs rec.J = 0
+acceptedAs (rec.NotTaken p) = 11
+acceptedAs (rec.Unrecognised p) = 12
+
+-- The paper's number of a reading.
+unfoldable pub answerOf : Reading → ℕ
+answerOf (reading.Accepted r) = acceptedAs r
+answerOf (reading.Refused n) = numberOf n
+
+-- ---- the answers of the code
+
+abbrev pub readingRes : Reading → Res Record
+readingRes (reading.Accepted r) = ok r
+readingRes (reading.Refused n) = no n

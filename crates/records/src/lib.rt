@@ -1,0 +1,198 @@
+// Lines of every kind, as src/records/mod.rs has them.
+ghost use mathlib.Core.Path.{_≡_};
+ghost use Rattle.text.specs.Res.{bind, ok};
+ghost use Rattle.print.specs.Print.{Prints};
+ghost use Rattle.extension.specs.Table.{readTable};
+ghost use Rattle.records.specs.Record.{kindOf, whole, readC, readLine, recordText, recordBook, acceptedAs, answerOf, readingRes};
+use a_record::ARead;
+use a_record::ARecord;
+use b_record::BRead;
+use b_record::BRecord;
+use c_record::CRecordDeclaration;
+use c_record::CRecordTurnpoint;
+use c_record::DeclarationRead;
+use c_record::TurnpointRead;
+use c_record::is_turnpoint;
+use extension::table::Table;
+use extension::table::Verdict;
+use h_record::HRead;
+use h_record::HRecord;
+use print::printed::Printed;
+use print::printed::print_part;
+use text::part::Part;
+use text::refusal::Refusal;
+
+// The definitions of an I or a J line stand beside the record, in a `Table`: an enum holds no array.
+pub enum Record {
+    A(ARecord),
+    B(BRecord),
+    CDeclaration(CRecordDeclaration),
+    CTurnpoint(CRecordTurnpoint),
+    H(HRecord),
+    I,
+    J,
+    NotTaken(Part),
+    Unrecognised(Part),
+}
+
+pub enum Reading {
+    Accepted(Record),
+    Refused(Refusal),
+}
+
+enum Kind {
+    A,
+    B,
+    C,
+    H,
+    I,
+    J,
+    NotTaken,
+    Other,
+}
+
+fn kind_of(letter: u8) -> Kind
+    ensures { λ r. ⌜ r ≡ kindOf letter ⌝ }
+{
+    match letter {
+        b'A' => Kind::A,
+        b'B' => Kind::B,
+        b'C' => Kind::C,
+        b'H' => Kind::H,
+        b'I' => Kind::I,
+        b'J' => Kind::J,
+        b'D' => Kind::NotTaken,
+        b'E' => Kind::NotTaken,
+        b'F' => Kind::NotTaken,
+        b'G' => Kind::NotTaken,
+        b'K' => Kind::NotTaken,
+        b'L' => Kind::NotTaken,
+        _ => Kind::Other,
+    }
+}
+
+fn parse_c(line: &[u8]) -> Reading
+    ensures { λ r. ⌜ readingRes r ≡ readC (now (line .entry)) ⌝ }
+{
+    if line.len() < 9 {
+        return Reading::Refused(Refusal::Syntax);
+    }
+    if is_turnpoint(line) {
+        return match CRecordTurnpoint::parse(line) {
+            TurnpointRead::Ok(point) => Reading::Accepted(Record::CTurnpoint(point)),
+            TurnpointRead::Refused(no_point) => Reading::Refused(no_point),
+        };
+    }
+    match CRecordDeclaration::parse(line) {
+        DeclarationRead::Ok(task) => Reading::Accepted(Record::CDeclaration(task)),
+        DeclarationRead::Refused(no_task) => Reading::Refused(no_task),
+    }
+}
+
+// An I or a J line, of which only the verdict is kept; `Table::parse` hands the definitions over.
+fn parse_table(line: &[u8], as_read: Record) -> Reading
+    ensures { λ r. ⌜ readingRes r ≡ bind (readTable (now (line .entry))) (λ ds. ok as_read) ⌝ }
+{
+    let verdict = Table::parse(line).verdict;
+    match verdict {
+        Verdict::Accepted => Reading::Accepted(as_read),
+        Verdict::Refused(no_table) => Reading::Refused(no_table),
+    }
+}
+
+impl Record {
+    pub fn parse_line(line: &[u8]) -> Reading
+        ensures { λ r. ⌜ readingRes r ≡ readLine (now (line .entry)) ⌝ }
+    {
+        if line.len() == 0 {
+            return Reading::Refused(Refusal::Syntax);
+        }
+        match kind_of(line[0]) {
+            Kind::A => match ARecord::parse(line) {
+                ARead::Ok(a) => Reading::Accepted(Record::A(a)),
+                ARead::Refused(no_a) => Reading::Refused(no_a),
+            },
+            Kind::B => match BRecord::parse(line) {
+                BRead::Ok(b) => Reading::Accepted(Record::B(b)),
+                BRead::Refused(no_b) => Reading::Refused(no_b),
+            },
+            Kind::C => parse_c(line),
+            Kind::H => match HRecord::parse(line) {
+                HRead::Ok(h) => Reading::Accepted(Record::H(h)),
+                HRead::Refused(no_h) => Reading::Refused(no_h),
+            },
+            Kind::I => parse_table(line, Record::I),
+            Kind::J => parse_table(line, Record::J),
+            Kind::NotTaken => Reading::Accepted(Record::NotTaken(Part {
+                start: 0,
+                len: line.len(),
+            })),
+            Kind::Other => Reading::Accepted(Record::Unrecognised(Part {
+                start: 0,
+                len: line.len(),
+            })),
+        }
+    }
+
+    // The table is that of an I or a J line; other kinds do not look at it.
+    pub fn print(self, table: Table, line: &[u8], buf: &mut [u8]) -> Printed
+        ensures { λ r. ⌜ Prints (recordText self table (now (line .entry))) (now (buf .entry)) (now (buf .exit)) r ⌝ }
+    {
+        match self {
+            Record::A(a) => a.print(line, buf),
+            Record::B(b) => b.print(line, buf),
+            Record::CDeclaration(task) => task.print(line, buf),
+            Record::CTurnpoint(point) => point.print(line, buf),
+            Record::H(h) => h.print(line, buf),
+            Record::I => table.print(b'I', buf),
+            Record::J => table.print(b'J', buf),
+            Record::NotTaken(part) => print_part(part, line, buf),
+            Record::Unrecognised(other) => print_part(other, line, buf),
+        }
+    }
+
+    pub fn by_the_book(self) -> bool
+        ensures { λ r. ⌜ r ≡ recordBook self ⌝ }
+    {
+        match self {
+            Record::A(_) => true,
+            Record::B(b) => b.by_the_book(),
+            Record::CDeclaration(task) => task.by_the_book(),
+            Record::CTurnpoint(point) => point.by_the_book(),
+            Record::H(_) => true,
+            Record::I => true,
+            Record::J => true,
+            Record::NotTaken(_) => true,
+            Record::Unrecognised(_) => true,
+        }
+    }
+
+    // 0, or 11 and 12, which are answers too.
+    pub fn number(self) -> u8
+        ensures { λ r. ⌜ r ≡ acceptedAs self ⌝ }
+    {
+        match self {
+            Record::A(_) => 0,
+            Record::B(_) => 0,
+            Record::CDeclaration(_) => 0,
+            Record::CTurnpoint(_) => 0,
+            Record::H(_) => 0,
+            Record::I => 0,
+            Record::J => 0,
+            Record::NotTaken(_) => 11,
+            Record::Unrecognised(_) => 12,
+        }
+    }
+}
+
+impl Reading {
+    // The paper's number of the answer.
+    pub fn number(self) -> u8
+        ensures { λ r. ⌜ r ≡ answerOf self ⌝ }
+    {
+        match self {
+            Reading::Accepted(record) => record.number(),
+            Reading::Refused(no) => no.number(),
+        }
+    }
+}
