@@ -6,7 +6,7 @@ use lib.ListN.{length}
 use Rattle.text.specs.Res.{Res, ok, no, bind, guard, pick, _≤?_, _=?_, _∧?_}
 use Rattle.text.specs.Line.{byte, restFrom, partText}
 use Rattle.text.specs.Number.{readInt, signed}
-use Rattle.text.specs.declared.refusal.Refusal.the-variants.{Syntax, NotAscii}
+use Rattle.text.specs.declared.refusal.Refusal.the-variants.{Syntax}
 use Rattle.field.specs.Field.{columns, ascii}
 use Rattle.datetime.specs.Time.{readTime, timeText, timeBook}
 use Rattle.coord.specs.Coord.{readPosition, positionText, positionBook}

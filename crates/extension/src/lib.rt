@@ -27,6 +27,8 @@ pub enum ExtensionRead {
 }
 
 impl Extension {
+    pub const STRING_LENGTH: usize = 7;
+
     // Stricter than reading, which takes an end equal to its start and any start.
     pub fn new(mnemonic: Mnemonic, start: u8, end: u8) -> ExtensionRead
         ensures { λ r. ⌜ extensionRes r ≡ newExtension mnemonic start end ⌝ }
@@ -46,7 +48,7 @@ impl Extension {
     pub fn parse(text: &[u8]) -> ExtensionRead
         ensures { λ r. ⌜ extensionRes r ≡ readExtension (now (text .entry)) ⌝ }
     {
-        if text.len() != 7 {
+        if text.len() != Extension::STRING_LENGTH {
             return ExtensionRead::Refused(Refusal::Syntax);
         }
         let start = match read_u8(&text[0..2]) {
