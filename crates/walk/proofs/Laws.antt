@@ -1,0 +1,65 @@
+-- Laws of a step.
+use Prim.Native.Nat.{ℕ, _+_, _≤_}
+use mathlib.Core.Path.{_≡_, refl, sym, ap, _∙_}
+use mathlib.Core.Bool.{Bool, true, false}
+use mathlib.Core.List.{List}
+use native.Mathlib.Omega.{arith}
+use lib.ListN.{length}
+use Rattle.text.specs.Res.{Res, ok, no, pick, _≤?_, _∧?_}
+use Rattle.text.specs.Line.{bytesOf, findPart, shown}
+use Rattle.text.proofs.Steps.{is≤, both, first, second, never}
+use Rattle.text.proofs.Lines.{shown-found}
+use Rattle.print.specs.Put.{largest}
+use Rattle.records.specs.Record.{readLine, readingRes}
+use Rattle.records.specs.declared.Record.{Record}
+use Rattle.records.specs.declared.Reading.{Reading}
+use Rattle.records.specs.declared.Reading.the-variants.{Accepted, Refused}
+use Rattle.log.specs.Line.{cutAt}
+use Rattle.log.specs.declared.Cut.{Cut}
+use Rattle.log.proofs.Cuts.{cut-inside}
+use Rattle.held.specs.Held.{heldAfter}
+use Rattle.held.specs.declared.Held.{Held}
+use Rattle.walk.specs.Cursor.{past, nextOf}
+use Rattle.walk.specs.Walk.{readingOf, stepTo, stepOf}
+use Rattle.walk.specs.declared.cursor.Cursor.{Cursor}
+use Rattle.walk.specs.declared.cursor.Next.{Next}
+use Rattle.walk.specs.declared.cursor.Next.the-variants as next
+use Rattle.walk.specs.declared.Walk.{Walk}
+use Rattle.walk.specs.declared.Step.{Step}
+use Rattle.walk.specs.declared.Taken.the-variants.{Line, Done}
+
+-- the answer that is viewed as m
+pub reading-is : (r : Reading) {m : Res Record} → readingRes r ≡ m → r ≡ readingOf m
+unfolding readingOf
+reading-is (Accepted v) e = ap readingOf e
+reading-is (Refused n) e = ap readingOf e
+
+module _ (s : List ℕ) where
+  -- the line of a cut inside the log, as it is shown
+  pub cut-shown : (p : ℕ) → p ≤ length s → shown (findPart (cutAt p s .line) s) ≡ cutAt p s .line
+  cut-shown p h = shown-found (sym (cut-inside s p h))
+
+  -- a line that comes next is the one that the cut finds at the place, which lies inside the log
+  pub next-is : (c : Cursor) (cut : Cut) (after : Cursor) → next.Line cut after ≡ nextOf s c → (cut ≡ cutAt (c .place) s) × (c .place ≤ length s)
+  unfolding nextOf pick
+  next-is c cut after e = by ((c .place + 1 ≤? length s) ∧? (c .number + 1 ≤? largest)) refl e
+    where
+      by : (t : Bool) → ((c .place + 1 ≤? length s) ∧? (c .number + 1 ≤? largest)) ≡ t
+          → next.Line cut after ≡ pick t (next.Line (cutAt (c .place) s) (past c (cutAt (c .place) s))) next.Done
+          → (cut ≡ cutAt (c .place) s) × (c .place ≤ length s)
+      by true h e = (cc, omega (arith, is≤ (both h .0)))
+      by false h e = let z : _≡_ {A = ℕ} 0 1 = cc in absurd (omega arith)
+
+  pub step-done : (w : Walk) → next.Done ≡ nextOf s (w .at) → _≡_ {A = Step} (record { walk = w; taken = Done }) (stepOf s w)
+  unfolding stepOf stepTo
+  step-done w e = rw (sym e)
+
+  -- the line l of the cut, its reading r and what is held after it are the step
+  pub step-line : (w : Walk) {cut : Cut} {after : Cursor} {l : List ℕ} {r : Reading} {h : Held} → next.Line cut after ≡ nextOf s (w .at)
+      → l ≡ bytesOf (shown (findPart (cut .line) s)) s → readingRes r ≡ readLine l → h ≡ heldAfter 73 (w .held) l
+      → _≡_ {A = Step} (record { walk = record { held = h; at = after }; taken = Line (cut .line) r }) (stepOf s w)
+  unfolding stepOf stepTo
+  step-line w {cut} {after} {l} {r} {h} e v a g =
+      let i = next-is (w .at) cut after e in
+      let b : l ≡ bytesOf (cut .line) s = v ∙ rw (i .0) (ap (λ p. bytesOf p s) (cut-shown (w .at .place) (i .1))) in
+      rw (g, reading-is r a, b, sym e)

@@ -1,0 +1,27 @@
+use borrow.Author.Needs.{needs}
+use mathlib.Core.Path.{refl, ap}
+use native.Mathlib.Omega.{arith}
+use denote.Ref.{now}
+use Rattle.text.proofs.Steps.{first, second, yes≤, no≤, and, holds, fails}
+use Rattle.log.specs.declared.Cut.{Cut}
+use Rattle.walk.specs.Cursor.{past, nextOf}
+use Rattle.walk.specs.declared.cursor.Next.the-variants.{Line}
+use Rattle.walk.proofs.cursor.Cursor.next.Statement.{statement}
+use Rattle.walk.proofs.cursor.Cursor.next.Tie as tie
+
+taken : tie.Need-returns
+unfolding nextOf past
+taken c =
+    first _ (and (yes≤ (omega arith)) (yes≤ (omega arith)))
+    (ap (λ (cut : Cut). Line cut (past (c .before .before .before .before .args .self) cut)) (c .cut-at .ensures))
+
+pub next-spec : {M : Type 1} → statement M
+unfolding nextOf
+next-spec =
+    tie.close
+    (tie.spec
+    (search needs)
+    (search needs)
+    taken
+    (λ c. second _ (holds (yes≤ (omega arith)) (no≤ (omega arith))) refl)
+    (λ c. second _ (fails _ (no≤ (omega arith))) refl))

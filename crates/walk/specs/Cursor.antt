@@ -1,0 +1,26 @@
+-- A place in a log and the number of lines read so far.
+use Prim.Native.Nat.{ℕ, _+_}
+use mathlib.Core.List.{List}
+use lib.ListN.{length}
+use Rattle.text.specs.Res.{pick, _≤?_, _∧?_}
+use Rattle.print.specs.Put.{largest}
+use Rattle.log.specs.Line.{cutAt}
+use Rattle.log.specs.declared.Cut.{Cut}
+use Rattle.walk.specs.declared.cursor.Cursor.{Cursor}
+use Rattle.walk.specs.declared.cursor.Next.{Next}
+use Rattle.walk.specs.declared.cursor.Next.the-variants.{Line, Done}
+
+-- Fresh walks start at place 0 and line number 0.
+unfoldable pub start : Cursor
+start = record { place = 0; number = 0 }
+
+-- The cursor after the line that was cut.
+unfoldable pub past : Cursor → Cut → Cursor
+past c cut = record { place = cut .next; number = c .number + 1 }
+
+-- The line at the place and the cursor after it; a place at or past the end, or the largest line number, is done.
+unfoldable pub nextOf : List ℕ → Cursor → Next
+nextOf s c =
+    pick ((c .place + 1 ≤? length s) ∧? (c .number + 1 ≤? largest))
+    (Line (cutAt (c .place) s) (past c (cutAt (c .place) s)))
+    Done

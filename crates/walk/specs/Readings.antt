@@ -1,0 +1,41 @@
+-- What the steps of a walk read, as readings of its lines, and this reader among readers of lines.
+use Prim.Native.Nat.{ℕ, zero, suc}
+use mathlib.Core.Path.{refl}
+use mathlib.Core.List.{List, [], _∷_}
+use Rattle.text.specs.Res.{Res}
+use Rattle.text.specs.Line.{bytesOf}
+use Rattle.extension.specs.Table.{readTable}
+use Rattle.records.specs.Record.{readLine, readingRes}
+use Rattle.records.specs.declared.Record.{Record}
+use Rattle.log.specs.Log.{Reader, LineRead, Letter}
+use Rattle.held.specs.Held.{noTable, setBy, begins, heldAfter}
+use Rattle.held.specs.declared.Held.{Held}
+use Rattle.walk.specs.Walk.{stepOf}
+use Rattle.walk.specs.declared.Walk.{Walk}
+use Rattle.walk.specs.declared.Taken.{Taken}
+use Rattle.walk.specs.declared.Taken.the-variants.{Line, Done}
+use Rattle.walk.specs.declared.Step.{Step}
+
+-- This reader of lines: the answer to a line with its record, and the table that I lines leave.
+abbrev pub reader : Reader (Res Record) Held
+reader = record { read = readLine; after = λ p h s. heldAfter 73 h s; start = noTable }
+
+-- The table that I lines set: an accepted one replaces it, a refused one removes it.
+abbrev pub letterI : Letter reader Held
+unfolding heldAfter
+letterI = record { view = λ h. h; begins = begins 73; set = λ s. setBy (readTable s); law = λ p h s. refl }
+
+-- What a walk reads of one line.
+abbrev pub Line-read : Type 0
+Line-read = LineRead (Res Record) Held
+
+-- What a step has read, in front of what is read later; nothing where it is done.
+unfoldable pub readBy : List ℕ → Taken → Walk → List Line-read → List Line-read
+readBy s Done w later = []
+readBy s (Line part reading) w later =
+    record { number = w .at .number; place = part .start; line = bytesOf part s; answer = readingRes reading; held = w .held } ∷ later
+
+-- The readings of at most k steps of a walk, up to the one that is done.
+unfoldable pub walked : ℕ → List ℕ → Walk → List Line-read
+walked zero s w = []
+walked (suc k) s w = readBy s (stepOf s w .taken) (stepOf s w .walk) (walked k s (stepOf s w .walk))

@@ -1,0 +1,85 @@
+// The walk over a log, by value: place, line number, and the table of definitions in force.
+pub mod cursor;
+
+ghost use mathlib.Core.Path.{_≡_};
+ghost use Rattle.text.specs.Line.{foundRes, shown, Shows};
+ghost use Rattle.held.specs.Held.{lookUp};
+ghost use Rattle.walk.specs.Walk.{fresh, stepOf};
+use crate::cursor::Cursor;
+use crate::cursor::Next;
+use b_record::BRecord;
+use field::Mnemonic;
+use held::Held;
+use records::Reading;
+use records::Record;
+use text::part::Found;
+use text::part::Part;
+
+pub struct Walk {
+    pub held: Held,
+    pub at: Cursor,
+}
+
+// The line that was read, as a part of the log, with its reading; or the walk is done.
+pub enum Taken {
+    Line(Part, Reading),
+    Done,
+}
+
+// The walk afterwards stands beside: an enum holds no array.
+pub struct Step {
+    pub walk: Walk,
+    pub taken: Taken,
+}
+
+impl Walk {
+    pub fn new() -> Walk
+        ensures { λ r. ⌜ r ≡ fresh ⌝ }
+    {
+        let held = Held::new();
+        let at = Cursor::new();
+        Walk { held, at }
+    }
+
+    pub fn step(self, log: &[u8]) -> Step
+        ensures { λ r. ⌜ r ≡ stepOf (now (log .entry)) self ⌝ }
+    {
+        let at = self.at;
+        match at.next(log) {
+            Next::Done => Step {
+                walk: self,
+                taken: Taken::Done,
+            },
+            Next::Line(cut, after) => {
+                let part = cut.line;
+                let line = part.view(log);
+                let before = self.held;
+                let reading = Record::parse_line(line);
+                let held = before.after(b'I', line);
+                let walk = Walk { held, at: after };
+                Step {
+                    walk,
+                    taken: Taken::Line(part, reading),
+                }
+            }
+        }
+    }
+
+    // Lookup by name on a B line, with the table in force there: the walk is the one after that line's step.
+    pub fn find_extension(self, fix: BRecord, name: Mnemonic, line: &[u8]) -> Found
+        ensures { λ r. ⌜ foundRes r ≡ lookUp 35 (fix .rest) (self .held) name (now (line .entry)) ⌝ }
+    {
+        let held = self.held;
+        let rest = fix.rest;
+        held.find(BRecord::BASE_LENGTH, rest, name, line)
+    }
+
+    // The value itself, as a part of the caller's own line.
+    pub fn get_extension(self, fix: BRecord, name: Mnemonic, line: &[u8]) -> &[u8]
+        ensures { λ r. ⌜ Shows (line .entry) (shown (lookUp 35 (fix .rest) (self .held) name (now (line .entry)))) r ⌝ }
+    {
+        let held = self.held;
+        let rest = fix.rest;
+        held.get(BRecord::BASE_LENGTH, rest, name, line)
+    }
+}
