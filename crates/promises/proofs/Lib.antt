@@ -1,1 +1,5 @@
 pub mod Readings
+pub mod Walks
+pub mod Answers
+pub mod Replaced
+pub mod Lookups

@@ -2,7 +2,6 @@
 use Prim.Native.Nat.{ℕ}
 use mathlib.Core.Path.{_≡_}
 use mathlib.Core.List.{List, []}
-use lib.IntN.{pos}
 use Rattle.text.specs.Res.{Res, ok, no, bind}
 use Rattle.text.specs.Line.{textOf}
 use Rattle.text.specs.Number.{readInt, signed}

@@ -5,9 +5,9 @@ use mathlib.Core.Bool.{Bool, true, false}
 use mathlib.Core.List.{List}
 use native.Mathlib.Omega.{arith}
 use lib.ListN.{length}
-use Rattle.text.specs.Res.{Res, ok, no, pick, _≤?_, _∧?_}
+use Rattle.text.specs.Res.{Res, pick, _≤?_, _∧?_}
 use Rattle.text.specs.Line.{bytesOf, findPart, shown}
-use Rattle.text.proofs.Steps.{is≤, both, first, second, never}
+use Rattle.text.proofs.Steps.{is≤, both}
 use Rattle.text.proofs.Lines.{shown-found}
 use Rattle.print.specs.Put.{largest}
 use Rattle.records.specs.Record.{readLine, readingRes}
@@ -22,7 +22,6 @@ use Rattle.held.specs.declared.Held.{Held}
 use Rattle.walk.specs.Cursor.{past, nextOf}
 use Rattle.walk.specs.Walk.{readingOf, stepTo, stepOf}
 use Rattle.walk.specs.declared.cursor.Cursor.{Cursor}
-use Rattle.walk.specs.declared.cursor.Next.{Next}
 use Rattle.walk.specs.declared.cursor.Next.the-variants as next
 use Rattle.walk.specs.declared.Walk.{Walk}
 use Rattle.walk.specs.declared.Step.{Step}

@@ -1,8 +1,8 @@
 -- What the steps of a walk read, as readings of its lines, and this reader among readers of lines.
 use Prim.Native.Nat.{ℕ, zero, suc}
-use mathlib.Core.Path.{refl}
+use mathlib.Core.Path.{_≡_, refl}
 use mathlib.Core.List.{List, [], _∷_}
-use Rattle.text.specs.Res.{Res}
+use Rattle.text.specs.Res.{Res, pick}
 use Rattle.text.specs.Line.{bytesOf}
 use Rattle.extension.specs.Table.{readTable}
 use Rattle.records.specs.Record.{readLine, readingRes}
@@ -14,16 +14,18 @@ use Rattle.walk.specs.Walk.{stepOf}
 use Rattle.walk.specs.declared.Walk.{Walk}
 use Rattle.walk.specs.declared.Taken.{Taken}
 use Rattle.walk.specs.declared.Taken.the-variants.{Line, Done}
-use Rattle.walk.specs.declared.Step.{Step}
 
 -- This reader of lines: the answer to a line with its record, and the table that I lines leave.
 abbrev pub reader : Reader (Res Record) Held
 reader = record { read = readLine; after = λ p h s. heldAfter 73 h s; start = noTable }
 
+pub i-lines-set : (p : ℕ) (h : Held) (s : List ℕ) → heldAfter 73 h s ≡ pick (begins 73 s) (setBy (readTable s)) h
+unfolding heldAfter
+i-lines-set p h s = refl
+
 -- The table that I lines set: an accepted one replaces it, a refused one removes it.
 abbrev pub letterI : Letter reader Held
-unfolding heldAfter
-letterI = record { view = λ h. h; begins = begins 73; set = λ s. setBy (readTable s); law = λ p h s. refl }
+letterI = record { view = λ h. h; begins = begins 73; leaves = λ s. setBy (readTable s); law = i-lines-set }
 
 -- What a walk reads of one line.
 abbrev pub Line-read : Type 0

@@ -1,6 +1,5 @@
 use borrow.Author.Needs.{needs}
 use mathlib.Core.Path.{sym, _∙_}
-use denote.Ref.{now}
 use Rattle.walk.proofs.Laws.{step-done, step-line}
 use Rattle.walk.proofs.Walk.step.Statement.{statement}
 use Rattle.walk.proofs.Walk.step.Tie as tie

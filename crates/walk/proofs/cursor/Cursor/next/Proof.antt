@@ -1,7 +1,6 @@
 use borrow.Author.Needs.{needs}
 use mathlib.Core.Path.{refl, ap}
 use native.Mathlib.Omega.{arith}
-use denote.Ref.{now}
 use Rattle.text.proofs.Steps.{first, second, yes≤, no≤, and, holds, fails}
 use Rattle.log.specs.declared.Cut.{Cut}
 use Rattle.walk.specs.Cursor.{past, nextOf}

@@ -1,0 +1,43 @@
+use borrow.Author.Needs.{needs}
+use mathlib.Core.Path.{_≡_, refl, sym, _∙_}
+use mathlib.Core.Bool.{true}
+use mathlib.Core.List.{[]}
+use native.Mathlib.Omega.{arith}
+use Rattle.text.specs.Res.{_=?_}
+use Rattle.text.proofs.Steps.{first, second, yes=, no=}
+use Rattle.print.proofs.Writing.{nothing}
+use Rattle.records.specs.Record.{acceptedAs}
+use Rattle.fields_text.specs.Piece.{byteShown}
+use Rattle.fields_text.specs.Line.{bookShown}
+use Rattle.fields_text.proofs.line.put_book.Statement.{statement}
+use Rattle.fields_text.proofs.line.put_book.Tie as tie
+
+-- a line answered 11 or 12
+unread : (c : tie.Then1) → [] ≡ bookShown (c .before .before .before .args .rec)
+unfolding bookShown
+unread c = second _ (no= (λ e. c .if1 .taken (c .before .number .ensures ∙ e))) refl
+
+accepted : (c : tie.Else1) → (acceptedAs (c .before .before .before .args .rec) =? 0) ≡ true
+accepted c = yes= (sym (c .before .number .ensures) ∙ c .if1 .left)
+
+yes : (c : tie.Then2) → byteShown 121 ≡ bookShown (c .before .before .before .before .before .args .rec)
+unfolding bookShown
+yes c = first _ (accepted (c .before .before)) (first _ (sym (c .before .by-the-book .ensures) ∙ c .if2 .taken) refl)
+
+no : (c : tie.Else2) → byteShown 110 ≡ bookShown (c .before .before .before .before .before .args .rec)
+unfolding bookShown
+no c = first _ (accepted (c .before .before)) (second _ (sym (c .before .by-the-book .ensures) ∙ c .if2 .left) refl)
+
+pub put-book-spec : {M : Type 1} → statement M
+put-book-spec =
+    tie.close
+    (tie.spec
+    (search needs)
+    (λ c. rw (← unread c) (nothing _ _ (omega arith) (omega arith)))
+    (search needs)
+    (search needs)
+    (search needs)
+    (λ c. rw (← yes (c .before .before .before .before)) (c .before .before .put-raw .ensures))
+    (search needs)
+    (search needs)
+    (λ c. rw (← no (c .before .before .before .before)) (c .before .before .put-raw2 .ensures)))

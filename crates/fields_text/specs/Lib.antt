@@ -1,0 +1,4 @@
+pub mod Piece
+pub mod Value
+pub mod Record
+pub mod Line

@@ -1,0 +1,79 @@
+-- Fields in plain decimal, each behind the one space that parts it from the field before.
+use Prim.Native.Nat.{ℕ}
+use mathlib.Core.List.{List, [], _∷_, _++_}
+use lib.IntN.{ℤ}
+use Rattle.text.specs.Number.{signed}
+use Rattle.text.specs.declared.part.Part.{Part}
+use Rattle.text.specs.declared.part.MaybePart.{MaybePart}
+use Rattle.text.specs.declared.part.MaybePart.the-variants as maybe
+use Rattle.field.specs.Field.{mnemonicText}
+use Rattle.datetime.specs.declared.Time.{Time}
+use Rattle.datetime.specs.declared.Date.{Date}
+use Rattle.coord.specs.Coord.{letterOf}
+use Rattle.coord.specs.declared.RawCoord.{RawCoord}
+use Rattle.coord.specs.declared.position.RawPosition.{RawPosition}
+use Rattle.manufacturer.specs.declared.MaybeLetter.{MaybeLetter}
+use Rattle.manufacturer.specs.declared.MaybeLetter.the-variants as letter
+use Rattle.manufacturer.specs.declared.MaybeTriple.{MaybeTriple}
+use Rattle.manufacturer.specs.declared.MaybeTriple.the-variants as triple
+use Rattle.c_record.specs.declared.MaybeDate.{MaybeDate}
+use Rattle.c_record.specs.declared.MaybeDate.the-variants as date
+use Rattle.listing_text.specs.Line.{plain}
+
+unfoldable pub number : ℕ → List ℕ
+number n = (32 ∷ []) ++ plain n
+
+unfoldable pub signedNumber : ℤ → List ℕ
+signedNumber z = (32 ∷ []) ++ signed 1 z
+
+-- A byte as it is.
+unfoldable pub byteShown : ℕ → List ℕ
+byteShown b = (32 ∷ []) ++ (b ∷ [])
+
+-- START+LEN, counted from the line's start.
+unfoldable pub partText : Part → List ℕ
+partText p = plain (p .start) ++ ((43 ∷ []) ++ plain (p .len))
+
+unfoldable pub partShown : Part → List ℕ
+partShown p = (32 ∷ []) ++ partText p
+
+-- `-` for none.
+unfoldable pub maybeShown : MaybePart → List ℕ
+maybeShown maybe.Missing = byteShown 45
+maybeShown (maybe.At p) = partShown p
+
+-- Numbers parted by a mark.
+unfoldable pub two : ℕ → ℕ → ℕ → List ℕ
+two mark b c = (mark ∷ []) ++ (plain b ++ ((mark ∷ []) ++ plain c))
+
+unfoldable pub three : ℕ → ℕ → ℕ → ℕ → List ℕ
+three mark a b c = number a ++ two mark b c
+
+-- H:M:S.
+unfoldable pub timeShown : Time → List ℕ
+timeShown t = three 58 (t .hours) (t .minutes) (t .seconds)
+
+-- D/M/Y.
+unfoldable pub dateShown : Date → List ℕ
+dateShown d = three 47 (d .day) (d .month) (d .year)
+
+unfoldable pub flightShown : MaybeDate → List ℕ
+flightShown date.Missing = byteShown 45
+flightShown (date.On d) = dateShown d
+
+-- Degrees, thousandths and letter.
+unfoldable pub coordShown : RawCoord → List ℕ
+coordShown c = number (c .degrees) ++ (number (c .«minute_thousandths») ++ byteShown (letterOf (c .sign)))
+
+-- Latitude's, then longitude's.
+unfoldable pub positionShown : RawPosition → List ℕ
+positionShown p = coordShown (p .lat .0) ++ coordShown (p .lon .0)
+
+-- A maker's codes as they are.
+unfoldable pub letterShown : MaybeLetter → List ℕ
+letterShown letter.Missing = byteShown 45
+letterShown (letter.Letter b) = byteShown b
+
+unfoldable pub tripleShown : MaybeTriple → List ℕ
+tripleShown triple.Missing = byteShown 45
+tripleShown (triple.Triple t) = (32 ∷ []) ++ mnemonicText t

@@ -1,0 +1,90 @@
+// A whole line of the program's text.
+ghost use Rattle.print.specs.Put.{Wrote};
+ghost use Rattle.records.specs.Record.{readingRes};
+ghost use Rattle.fields_text.specs.Line.{bookShown, printedShown, seen, fieldsShown, fieldsLine};
+use crate::piece::put_raw;
+use crate::record::put_record;
+use extension::table::Table;
+use held::Held;
+use listing_text::put_head;
+use print::put::put_byte;
+use print::put::put_bytes;
+use records::Reading;
+use records::Record;
+
+// `y` or `n` for by the book; nothing of a line that is not read.
+fn put_book(rec: Record, buf: &mut [u8], at: usize) -> usize
+    ensures { λ r. ⌜ Wrote (now (buf .entry)) at (bookShown rec) (now (buf .exit)) r ⌝ }
+{
+    if rec.number() != 0 {
+        return at;
+    }
+    if rec.by_the_book() {
+        return put_raw(b'y', buf, at);
+    }
+    put_raw(b'n', buf, at)
+}
+
+// The record as printed, behind ` =`.
+fn put_printed(printed: &[u8], buf: &mut [u8], at: usize) -> usize
+    ensures { λ r. ⌜ Wrote (now (buf .entry)) at (printedShown (now (printed .entry))) (now (buf .exit)) r ⌝ }
+{
+    let sign = put_byte(buf, at, b' ');
+    let text = put_byte(buf, sign, b'=');
+    put_bytes(buf, text, printed)
+}
+
+// What is seen of an accepted line.
+fn put_seen(
+    rec: Record,
+    held: Held,
+    names: &[u8],
+    printed: &[u8],
+    line: &[u8],
+    buf: &mut [u8],
+    at: usize,
+) -> usize
+    ensures { λ r. ⌜ Wrote (now (buf .entry)) at (seen rec held (now (names .entry)) (now (printed .entry)) (now (line .entry))) (now (buf .exit)) r ⌝ }
+{
+    let table = Table::parse(line).table;
+    let book = put_record(rec, table, held, names, line, buf, at);
+    let sign = put_book(rec, buf, book);
+    put_printed(printed, buf, sign)
+}
+
+// The fields of a reading; a refused line has none.
+fn put_fields(
+    reading: Reading,
+    held: Held,
+    names: &[u8],
+    printed: &[u8],
+    line: &[u8],
+    buf: &mut [u8],
+    at: usize,
+) -> usize
+    ensures { λ r. ⌜ Wrote (now (buf .entry)) at (fieldsShown (readingRes reading) held (now (names .entry)) (now (printed .entry)) (now (line .entry))) (now (buf .exit)) r ⌝ }
+{
+    match reading {
+        Reading::Accepted(record) => put_seen(record, held, names, printed, line, buf, at),
+        Reading::Refused(_) => at,
+    }
+}
+
+// The line with this number: what `held` has in force at it, the names asked for (three bytes each; none: the table's), and its
+// record as printed.
+pub fn put_line(
+    number: u64,
+    line: &[u8],
+    held: Held,
+    names: &[u8],
+    printed: &[u8],
+    buf: &mut [u8],
+    at: usize,
+) -> usize
+    ensures { λ r. ⌜ Wrote (now (buf .entry)) at (fieldsLine number (now (line .entry)) held (now (names .entry)) (now (printed .entry))) (now (buf .exit)) r ⌝ }
+{
+    let reading = Record::parse_line(line);
+    let fields = put_head(number, line, reading, buf, at);
+    let end = put_fields(reading, held, names, printed, line, buf, fields);
+    put_byte(buf, end, b'\n')
+}

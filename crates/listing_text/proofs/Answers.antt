@@ -1,0 +1,13 @@
+-- The number of an answer.
+use Prim.Native.Nat.{ℕ}
+use mathlib.Core.Path.{_≡_}
+use Rattle.records.specs.Record.{answerOf, readingRes}
+use Rattle.records.specs.declared.Reading.{Reading}
+use Rattle.records.specs.declared.Reading.the-variants.{Accepted, Refused}
+use Rattle.listing_text.specs.Line.{answered}
+
+-- the number that the code has of a reading is its answer's
+pub number-is : {n : ℕ} (r : Reading) → n ≡ answerOf r → n ≡ answered (readingRes r)
+unfolding answerOf answered
+number-is (Accepted r) e = e
+number-is (Refused n) e = e

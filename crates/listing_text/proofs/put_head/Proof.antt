@@ -1,0 +1,15 @@
+use borrow.Author.Needs.{needs}
+use Rattle.print.proofs.Writing.{then}
+use Rattle.listing_text.specs.Line.{plain, headText}
+use Rattle.listing_text.proofs.put_head.Statement.{statement}
+use Rattle.listing_text.proofs.put_head.Tie as tie
+
+returns : tie.Need-returns
+unfolding headText plain
+returns c =
+    let answer = c .before .before in
+    let number = answer .before .before .before .before in
+    then (number .put-nat .ensures) (answer .put-answer .ensures)
+
+pub put-head-spec : {M : Type 1} → statement M
+put-head-spec = tie.close (tie.spec (search needs) (search needs) (search needs) returns)

@@ -1,0 +1,16 @@
+use borrow.Author.Needs.{needs}
+use Rattle.print.proofs.Writing.{then}
+use Rattle.listing_text.specs.Line.{lineText}
+use Rattle.listing_text.proofs.put_line.Statement.{statement}
+use Rattle.listing_text.proofs.put_line.Tie as tie
+
+returns : tie.Need-returns
+unfolding lineText
+returns c =
+    let lf = c .before .before in
+    let heights = lf .before .before .before .before in
+    let head = heights .before .before .before .before in
+    then (head .put-head .ensures) (then (heights .put-heights .ensures) (lf .put-byte .ensures))
+
+pub put-line-spec : {M : Type 1} → statement M
+put-line-spec = tie.close (tie.spec (search needs) (search needs) (search needs) (search needs) returns)

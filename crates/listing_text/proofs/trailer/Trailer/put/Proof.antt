@@ -1,0 +1,18 @@
+use borrow.Author.Needs.{needs}
+use Rattle.print.proofs.Writing.{then}
+use Rattle.listing_text.specs.Trailer.{trailerText}
+use Rattle.listing_text.proofs.trailer.Trailer.put.Statement.{statement}
+use Rattle.listing_text.proofs.trailer.Trailer.put.Tie as tie
+
+returns : tie.Need-returns
+unfolding trailerText
+returns c =
+    let lf = c .before .before in
+    let offset = lf .before .before .before .before in
+    let space = offset .before .before .before .before in
+    let counts = space .before .before .before .before in
+    let letter = counts .before .before .before .before in
+    then (letter .put-byte .ensures) (then (counts .put-counts .ensures) (then (space .put-byte2 .ensures) (then (offset .put .ensures) (lf .put-byte3 .ensures))))
+
+pub put-spec : {M : Type 1} → statement M
+put-spec = tie.close (tie.spec (search needs) (search needs) (search needs) (search needs) (search needs) (search needs) returns)

@@ -1,0 +1,16 @@
+use borrow.Author.Needs.{needs}
+use mathlib.Core.Path.{sym}
+use Rattle.text.proofs.Steps.{yes≤, no≤, tested, holds, fails}
+use Rattle.listing_text.specs.Trailer.{isRefusal}
+use Rattle.listing_text.proofs.Answers.{number-is}
+use Rattle.listing_text.proofs.trailer.is_refusal.Statement.{statement}
+use Rattle.listing_text.proofs.trailer.is_refusal.Tie as tie
+
+pub is-refusal-spec : {M : Type 1} → statement M
+unfolding isRefusal
+is-refusal-spec =
+    tie.close
+    (tie.spec
+    (search needs)
+    (λ c. rw (← number-is _ (c .before .number .ensures)) (sym (fails _ (no≤ (c .if1 .taken)))))
+    (λ c. rw (← number-is _ (c .before .number .ensures)) (sym (holds (yes≤ (c .if1 .left)) (tested _ _)))))

@@ -1,0 +1,52 @@
+-- A line of the listing. Fields are parted by one space, every printed line is closed by LF.
+use Prim.Native.Nat.{ℕ}
+use mathlib.Core.List.{List, [], _∷_, _++_}
+use Rattle.text.specs.Res.{Res, ok, no, pick, numberOf, _≤?_, _∧?_}
+use Rattle.text.specs.Line.{byte}
+use Rattle.text.specs.Number.{padded, signed}
+use Rattle.b_record.specs.declared.BRecord.{BRecord}
+use Rattle.records.specs.Record.{acceptedAs}
+use Rattle.records.specs.declared.Record.{Record}
+use Rattle.records.specs.declared.Record.the-variants as rec
+
+-- A number in plain decimal.
+unfoldable pub plain : ℕ → List ℕ
+plain n = padded 1 n
+
+-- The paper's number of the answer to a line.
+unfoldable pub answered : Res Record → ℕ
+answered (ok r) = acceptedAs r
+answered (no n) = numberOf n
+
+-- The first byte if A to Z, else `-`.
+unfoldable pub letterOf : List ℕ → ℕ
+letterOf s = pick ((65 ≤? byte 0 s) ∧? (byte 0 s ≤? 90)) (byte 0 s) 45
+
+-- The letter and the answer.
+unfoldable pub answerText : List ℕ → Res Record → List ℕ
+answerText s m = (32 ∷ []) ++ ((letterOf s ∷ []) ++ ((32 ∷ []) ++ plain (answered m)))
+
+-- The line's number, its letter and the answer.
+unfoldable pub headText : ℕ → List ℕ → Res Record → List ℕ
+headText n s m = plain n ++ answerText s m
+
+-- The pressure and GPS heights of a fix, in width 5.
+unfoldable pub fixHeights : BRecord → List ℕ
+fixHeights r = (32 ∷ []) ++ (signed 5 (r .«pressure_alt» .0) ++ ((32 ∷ []) ++ signed 5 (r .«gps_alt» .0)))
+
+-- For an accepted B line its heights, for another nothing.
+unfoldable pub heightsText : Res Record → List ℕ
+heightsText (ok (rec.B r)) = fixHeights r
+heightsText (ok (rec.A r)) = []
+heightsText (ok (rec.CDeclaration r)) = []
+heightsText (ok (rec.CTurnpoint r)) = []
+heightsText (ok (rec.H r)) = []
+heightsText (ok rec.I) = []
+heightsText (ok rec.J) = []
+heightsText (ok (rec.NotTaken p)) = []
+heightsText (ok (rec.Unrecognised p)) = []
+heightsText (no n) = []
+
+-- Line n with the text s, answered m.
+unfoldable pub lineText : ℕ → List ℕ → Res Record → List ℕ
+lineText n s m = headText n s m ++ (heightsText m ++ (10 ∷ []))

@@ -1,0 +1,42 @@
+-- Answers are determined: each crate's laws on its own answers, as one list.
+use mathlib.Core.Path.{_≡_, refl}
+use Rattle.text.specs.Res.{Res}
+use Rattle.text.specs.declared.refusal.Refusal.{Refusal}
+use Rattle.text.proofs.Answers.{made, told, u8-undone, u16-undone, i8-undone, i16-undone, found-undone, shows-one}
+use Rattle.print.proofs.Answers.{prints-one, wrote-one}
+use Rattle.datetime.proofs.Answers.{time-undone, date-undone}
+use Rattle.coord.proofs.Answers.{latitude-undone, longitude-undone, position-undone}
+use Rattle.extension.proofs.Answers.{extension-undone}
+use Rattle.a_record.proofs.Answers.{a-undone}
+use Rattle.b_record.proofs.Answers.{b-undone}
+use Rattle.c_record.proofs.Answers.{declaration-undone, turnpoint-undone}
+use Rattle.h_record.proofs.Answers.{h-undone}
+use Rattle.records.proofs.Answers.{reading-undone}
+use Rattle.promises.specs.Determined.{Tells, Determined}
+
+tells : {A E : Type 0} (view : E → Res A) (f : A → E) (g : Refusal → E) → ((r : E) → made f g (view r) ≡ r) → Tells view
+tells view f g undone r q e = told view f g undone e refl
+
+pub determined : Determined
+determined = record {
+  u8 = tells _ _ _ u8-undone;
+  u16 = tells _ _ _ u16-undone;
+  i8 = tells _ _ _ i8-undone;
+  i16 = tells _ _ _ i16-undone;
+  found = tells _ _ _ found-undone;
+  time = tells _ _ _ time-undone;
+  date = tells _ _ _ date-undone;
+  latitude = tells _ _ _ latitude-undone;
+  longitude = tells _ _ _ longitude-undone;
+  position = tells _ _ _ position-undone;
+  extension = tells _ _ _ extension-undone;
+  a = tells _ _ _ a-undone;
+  b = tells _ _ _ b-undone;
+  declaration = tells _ _ _ declaration-undone;
+  turnpoint = tells _ _ _ turnpoint-undone;
+  h = tells _ _ _ h-undone;
+  reading = tells _ _ _ reading-undone;
+  shows = shows-one;
+  wrote = wrote-one;
+  prints = prints-one;
+}

@@ -1,0 +1,49 @@
+-- Answers are determined. Every public function states its answer in one of five ways: r ≡ a definition; a view of r ≡ a
+-- definition; Shows, of a slice; Wrote, of a piece; Prints, of a printer. In each way, any two permitted answers are equal, and so
+-- are the bytes that they leave.
+use Prim.Native.Nat.{ℕ}
+use mathlib.Core.Path.{_≡_}
+use mathlib.Core.List.{List}
+use denote.Ref.{RefT, now}
+use Rattle.text.specs.Res.{Res}
+use Rattle.text.specs.Number.{u8Res, u16Res, i8Res, i16Res}
+use Rattle.text.specs.Line.{foundRes, Shows}
+use Rattle.text.specs.declared.part.Part.{Part}
+use Rattle.print.specs.Put.{Wrote}
+use Rattle.print.specs.Print.{Prints}
+use Rattle.print.specs.declared.printed.Printed.{Printed}
+use Rattle.datetime.specs.Time.{timeRes}
+use Rattle.datetime.specs.Date.{dateRes}
+use Rattle.coord.specs.Coord.{latitudeRes, longitudeRes, positionRes}
+use Rattle.extension.specs.Extension.{extensionRes}
+use Rattle.a_record.specs.ARecord.{aRes}
+use Rattle.b_record.specs.BRecord.{bRes}
+use Rattle.c_record.specs.CRecord.{declarationRes, turnpointRes}
+use Rattle.h_record.specs.HRecord.{hRes}
+use Rattle.records.specs.Record.{readingRes}
+
+-- Two answers with one view are equal.
+abbrev pub Tells : {A E : Type 0} → (E → Res A) → Type 0
+Tells {A} {E} view = (r q : E) → view r ≡ view q → r ≡ q
+
+pub record Determined : Type 1 where
+  pub u8 : Tells u8Res
+  pub u16 : Tells u16Res
+  pub i8 : Tells i8Res
+  pub i16 : Tells i16Res
+  pub found : Tells foundRes
+  pub time : Tells timeRes
+  pub date : Tells dateRes
+  pub latitude : Tells latitudeRes
+  pub longitude : Tells longitudeRes
+  pub position : Tells positionRes
+  pub extension : Tells extensionRes
+  pub a : Tells aRes
+  pub b : Tells bRes
+  pub declaration : Tells declarationRes
+  pub turnpoint : Tells turnpointRes
+  pub h : Tells hRes
+  pub reading : Tells readingRes
+  pub shows : {line r₁ r₂ : RefT (List ℕ)} {p : Part} → Shows line p r₁ → Shows line p r₂ → (now r₁ ≡ now r₂) × (r₁ .ptr ≡ r₂ .ptr)
+  pub wrote : {b t b₁ b₂ : List ℕ} {at r₁ r₂ : ℕ} → Wrote b at t b₁ r₁ → Wrote b at t b₂ r₂ → (r₁ ≡ r₂) × (b₁ ≡ b₂)
+  pub prints : {m : Res (List ℕ)} {b b₁ b₂ : List ℕ} {r₁ r₂ : Printed} → Prints m b b₁ r₁ → Prints m b b₂ r₂ → (r₁ ≡ r₂) × (b₁ ≡ b₂)

@@ -1,0 +1,43 @@
+-- The cases in which a lookup by name refuses, and the value that it gives in every other.
+use Prim.Native.Nat.{ℕ, _+_, _-_, _≤_, _<_}
+use mathlib.Core.Path.{_≡_}
+use mathlib.Core.Bool.{true, false}
+use mathlib.Core.List.{List}
+use lib.ListN.{length}
+use Rattle.text.specs.Res.{ok, no}
+use Rattle.text.specs.declared.refusal.Refusal.{Refusal}
+use Rattle.text.specs.declared.refusal.Refusal.the-variants.{NoDefinition, OutsideLine, BadExtension, MissingExtension}
+use Rattle.text.specs.declared.part.Part.{Part}
+use Rattle.field.specs.declared.Mnemonic.{Mnemonic}
+use Rattle.extension.specs.Table.{defsOf}
+use Rattle.extension.specs.declared.Extension.{Extension}
+use Rattle.held.specs.Held.{isSet, firstNamed, lookUp}
+use Rattle.held.specs.declared.Held.{Held}
+
+module _ (base : ℕ) (rest : Part) (h : Held) (name : Mnemonic) (s : List ℕ) where
+  -- The table in force defines the name as e.
+  pub record Defined (e : Extension) : Type 0 where
+    pub in-force : isSet (h .slot) ≡ true
+    pub count : h .table .count ≤ 99
+    pub first : firstNamed name (defsOf (h .table)) ≡ ok e
+
+  -- Why a lookup refuses with n, in the order of the checks.
+  pub data Why (n : Refusal) : Type 0 where
+    no-table : n ≡ NoDefinition → isSet (h .slot) ≡ false → Why n
+    over-99 : n ≡ NoDefinition → 99 < h .table .count → Why n
+    no-name : n ≡ NoDefinition → firstNamed name (defsOf (h .table)) ≡ no NoDefinition → Why n
+    outside : n ≡ OutsideLine → length s < rest .start + rest .len → Why n
+    start-in-base : n ≡ BadExtension → (e : Extension) → Defined e → e .«start_byte» ≤ base → Why n
+    end-before-start : n ≡ BadExtension → (e : Extension) → Defined e → e .«end_byte» < e .«start_byte» → Why n
+    past-the-rest : n ≡ MissingExtension → (e : Extension) → Defined e → rest .len < e .«end_byte» - base → Why n
+
+  -- No case but those named refuses.
+  abbrev pub Refuses : Type 0
+  Refuses = (n : Refusal) → lookUp base rest h name s ≡ no n → Why n
+
+  -- In every other it gives the part of the rest from start - (base + 1) up to end - base.
+  abbrev pub Gives : Type 0
+  Gives =
+      (e : Extension) → Defined e → rest .start + rest .len ≤ length s → base < e .«start_byte» → e .«start_byte» ≤ e .«end_byte»
+      → e .«end_byte» - base ≤ rest .len
+      → lookUp base rest h name s ≡ ok (record { start = rest .start + (e .«start_byte» - (base + 1)); len = (e .«end_byte» - base) - (e .«start_byte» - (base + 1)) })
