@@ -2,8 +2,8 @@ use mathlib.Core.Path.{_≡_, refl}
 use native.Mathlib.Omega.{arith}
 use lib.ListN.{length}
 use borrow.Author.Needs.{needs}
-use Rattle.fields.proofs.show.Statement.{statement}
-use Rattle.fields.proofs.show.Tie as tie
+use Rattle.fields_out.proofs.show_lines.Statement.{statement}
+use Rattle.fields_out.proofs.show_lines.Tie as tie
 
 abbrev Inv-loop : tie.InvT-loop
 Inv-loop log names printed₀ text₀ walk₀ left₀ printed text walk left = (length printed ≡ length printed₀) × (length text ≡ length text₀)
@@ -41,8 +41,8 @@ same-length-2 c = search needs
 returns : tie.Need-returns Inv-loop μ-loop
 returns c = search needs
 
-pub show-spec : {M : Type 1} → statement M
-show-spec =
+pub show-lines-spec : {M : Type 1} → statement M
+show-lines-spec =
     tie.close
     (tie.spec
     Inv-loop
