@@ -2,7 +2,7 @@
 ghost use mathlib.Core.Path.{_≡_};
 ghost use Prim.Native.Nat.{_+_, _≤_};
 ghost use lib.ListN.{length};
-ghost use Rattle.text.specs.Line.{findPart, findMaybe, partBytes, maybeBytes, shown, Shows};
+ghost use Rattle.part.specs.Part.{findPart, findMaybe, partBytes, maybeBytes, shown, Shows};
 ghost use Rattle.print.specs.Put.{Wrote};
 ghost use Rattle.print.specs.Print.{Prints};
 ghost use Rattle.manufacturer.specs.Maker.{tripleOf};
@@ -12,13 +12,13 @@ use field::all_digits;
 use field::is_ascii;
 use manufacturer::Manufacturer;
 use manufacturer::MaybeTriple;
+use part::Found;
+use part::MaybePart;
+use part::Part;
 use print::printed::Printed;
 use print::put::put_byte;
 use print::put::put_maybe;
 use print::put::put_part;
-use text::part::Found;
-use text::part::MaybePart;
-use text::part::Part;
 use text::refusal::Refusal;
 
 pub struct ARecord {

@@ -2,7 +2,7 @@
 ghost use mathlib.Core.Path.{_≡_};
 ghost use Prim.Native.Nat.{_≤_};
 ghost use lib.ListN.{length};
-ghost use Rattle.text.specs.Line.{findPart, partBytes, shown, Shows, foundRes};
+ghost use Rattle.part.specs.Part.{findPart, partBytes, shown, Shows, foundRes};
 ghost use Rattle.extension.specs.Value.{findValue};
 ghost use Rattle.print.specs.Put.{Wrote};
 ghost use Rattle.print.specs.Print.{Prints};
@@ -13,14 +13,14 @@ use datetime::Time;
 use datetime::TimeRead;
 use extension::Extension;
 use field::is_ascii;
+use part::Found;
+use part::Part;
 use print::printed::Printed;
 use print::put::put_byte;
 use print::put::put_i16;
 use print::put::put_part;
 use text::number::I16Read;
 use text::number::read_i16;
-use text::part::Found;
-use text::part::Part;
 use text::refusal::Refusal;
 
 pub enum FixValid {

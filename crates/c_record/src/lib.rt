@@ -2,7 +2,7 @@
 ghost use mathlib.Core.Path.{_≡_};
 ghost use Prim.Native.Nat.{_≤_};
 ghost use lib.ListN.{length};
-ghost use Rattle.text.specs.Line.{findMaybe, maybeBytes, shown, Shows};
+ghost use Rattle.part.specs.Part.{findMaybe, maybeBytes, shown, Shows};
 ghost use Rattle.text.specs.Number.{zeros};
 ghost use Rattle.print.specs.Put.{Wrote};
 ghost use Rattle.print.specs.Print.{Prints};
@@ -14,6 +14,8 @@ use datetime::DateRead;
 use datetime::Time;
 use datetime::TimeRead;
 use field::is_ascii;
+use part::Found;
+use part::MaybePart;
 use print::printed::Printed;
 use print::put::put_byte;
 use print::put::put_bytes;
@@ -24,8 +26,6 @@ use text::number::I8Read;
 use text::number::U16Read;
 use text::number::read_i8;
 use text::number::read_u16;
-use text::part::Found;
-use text::part::MaybePart;
 use text::refusal::Refusal;
 
 // A date that may be missing, in the place of the Rust's `Option<Date>`.

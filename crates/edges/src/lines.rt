@@ -3,11 +3,11 @@ use crate::say;
 use b_record::BRead;
 use b_record::BRecord;
 use extension::Extension;
-use extension::table::Table;
 use field::Mnemonic;
+use part::Found;
 use records::Reading;
 use records::Record;
-use text::part::Found;
+use table::Table;
 
 fn answer(record: Record, table: Table, text: &[u8]) {
     io::print_decimal(1, record.number() as u64);

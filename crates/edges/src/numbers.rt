@@ -1,5 +1,6 @@
 // "Numbers as text" and the edges of heights and counts.
 use crate::say;
+use part::Part;
 use print::printed::print_int;
 use print::printed::print_part;
 use print::put::put_i8;
@@ -13,7 +14,6 @@ use text::number::read_i8;
 use text::number::read_i16;
 use text::number::read_u8;
 use text::number::read_u16;
-use text::part::Part;
 
 fn of_u8(text: &[u8]) {
     say::asked(b"u8", text);

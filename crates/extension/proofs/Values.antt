@@ -4,12 +4,12 @@ use mathlib.Core.Path.{_≡_, refl, sym, _∙_}
 use mathlib.Core.List.{List}
 use native.Mathlib.Omega.{arith}
 use lib.ListN.{length}
-use Rattle.text.specs.Res.{Res, ok}
-use Rattle.text.specs.Line.{findPart, shown}
-use Rattle.text.specs.declared.part.Part.{Part}
+use Rattle.text.specs.Res.{ok}
+use Rattle.part.specs.Part.{findPart, shown}
+use Rattle.part.specs.declared.Part.{Part}
 use Rattle.text.proofs.Steps.{is≤, yes≤, pass}
 use Rattle.text.proofs.Finds.{Finds, finds-ok, finds-bind, finds-guard}
-use Rattle.text.proofs.Lines.{inside, shown-found}
+use Rattle.part.proofs.Parts.{inside, shown-found}
 use Rattle.extension.specs.Value.{findValue}
 use Rattle.extension.specs.declared.Extension.{Extension}
 

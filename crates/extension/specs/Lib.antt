@@ -1,3 +1,2 @@
 pub mod Extension
-pub mod Table
 pub mod Value

@@ -2,9 +2,9 @@
 use Prim.Native.Nat.{ℕ, _+_, _-_}
 use mathlib.Core.List.{List}
 use Rattle.text.specs.Res.{Res, ok, bind, guard, _≤?_}
-use Rattle.text.specs.Line.{findPart}
+use Rattle.part.specs.Part.{findPart}
 use Rattle.text.specs.declared.refusal.Refusal.the-variants.{BadExtension, MissingExtension}
-use Rattle.text.specs.declared.part.Part.{Part}
+use Rattle.part.specs.declared.Part.{Part}
 use Rattle.extension.specs.declared.Extension.{Extension}
 
 -- With a base of so many columns: a rest outside the line is 9; then a start of at most the base, or an end before the start,

@@ -1,5 +1,4 @@
 // One definition of an extension, as the first half of src/records/extension.rs has it.
-pub mod table;
 pub mod value;
 
 ghost use mathlib.Core.Path.{_≡_};

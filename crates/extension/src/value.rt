@@ -1,10 +1,10 @@
 // Extension values: what a definition names in a line, behind the columns that every such line has.
 ghost use mathlib.Core.Path.{_≡_};
-ghost use Rattle.text.specs.Line.{foundRes, shown, Shows};
+ghost use Rattle.part.specs.Part.{foundRes, shown, Shows};
 ghost use Rattle.extension.specs.Value.{findValue};
 use crate::Extension;
-use text::part::Found;
-use text::part::Part;
+use part::Found;
+use part::Part;
 use text::refusal::Refusal;
 
 impl Extension {

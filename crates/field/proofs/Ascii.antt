@@ -4,7 +4,7 @@ use mathlib.Core.Path.{_≡_, refl}
 use mathlib.Core.List.{List, [], _∷_}
 use mathlib.Core.Bool.{true}
 use lib.ListN.{take, drop}
-use Rattle.text.specs.Res.{Res, guard, _≤?_, _∧?_}
+use Rattle.text.specs.Res.{Res, _≤?_}
 use Rattle.text.proofs.Steps.{and, both, pass}
 use Rattle.field.specs.Field.{isAscii, cut, asciiIn, ascii}
 use Rattle.field.proofs.Every.{Every}

@@ -3,8 +3,7 @@ use Prim.Native.Nat.{ℕ, _+_, _-_, _≤_}
 use mathlib.Core.Path.{_≡_}
 use mathlib.Core.List.{List}
 use native.Mathlib.Omega.{arith}
-use lib.ListN.{length, take, drop, length-take, length-drop}
-use Rattle.text.specs.Res.{Res}
+use lib.ListN.{length, length-take, length-drop}
 use Rattle.field.specs.Field.{cut, columns}
 
 -- w columns are w bytes

@@ -1,10 +1,10 @@
 -- The three ways in which a field's reading begins.
 use Prim.Native.Nat.{ℕ}
-use mathlib.Core.Path.{_≡_, sym, _∙_}
+use mathlib.Core.Path.{_≡_}
 use mathlib.Core.List.{List}
 use mathlib.Core.Bool.{true, false}
 use lib.ListN.{length}
-use Rattle.text.specs.Res.{Res, no, guard, _=?_}
+use Rattle.text.specs.Res.{Res, no}
 use Rattle.text.specs.declared.refusal.Refusal.the-variants.{NotAscii, WrongLength}
 use Rattle.text.proofs.Steps.{pass, stop, no=, yes=}
 use Rattle.field.specs.Field.{isAscii, cut, columns, sized, asciiIn, ascii, field}

@@ -1,6 +1,6 @@
 -- What every field is read by: its length, ASCII, and its columns.
 use Prim.Native.Nat.{ℕ, _-_}
-use mathlib.Core.Bool.{Bool, true, false}
+use mathlib.Core.Bool.{Bool, true}
 use mathlib.Core.List.{List, [], _∷_, _++_}
 use lib.ListN.{length, take, drop}
 use Rattle.text.specs.Res.{Res, guard, _≤?_, _=?_, _∧?_}

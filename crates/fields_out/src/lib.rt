@@ -3,11 +3,11 @@
 ghost use mathlib.Core.Path.{_≡_};
 ghost use Prim.Native.Nat.{_≤_};
 ghost use lib.ListN.{length};
-use extension::table::Table;
 use fields_text::line::put_line;
 use held::Held;
 use print::printed::Printed;
 use records::Reading;
+use table::Table;
 use walk::Step;
 use walk::Taken;
 use walk::Walk;

@@ -9,9 +9,9 @@ use lib.ListN.{length, drop, getD, length-take}
 use lib.Seq.{drop-cons, getD-take}
 use Rattle.text.specs.Res.{pick}
 use Rattle.text.proofs.Steps.{first, second, yes≤, no≤}
-use Rattle.extension.specs.Table.{empty, defsOf}
+use Rattle.table.specs.Table.{empty, defsOf}
 use Rattle.extension.specs.declared.Extension.{Extension}
-use Rattle.extension.specs.declared.table.Table.{Table}
+use Rattle.table.specs.declared.Table.{Table}
 use Rattle.held.specs.Held.{isSet}
 use Rattle.held.specs.declared.Held.{Held}
 use Rattle.fields_text.specs.Value.{namesOf, tableNames, namesIn, askedFor}

@@ -2,7 +2,7 @@
 use Prim.Native.Nat.{ℕ}
 use mathlib.Core.List.{List, [], _∷_, _++_}
 use Rattle.text.specs.Res.{Res, ok, no, pick, _=?_}
-use Rattle.extension.specs.Table.{readTable, tableRead}
+use Rattle.table.specs.Table.{readTable, tableRead}
 use Rattle.records.specs.Record.{readLine, recordBook, acceptedAs}
 use Rattle.records.specs.declared.Record.{Record}
 use Rattle.held.specs.declared.Held.{Held}

@@ -3,9 +3,9 @@ use Prim.Native.Nat.{ℕ}
 use mathlib.Core.List.{List, [], _∷_, _++_}
 use lib.IntN.{ℤ}
 use Rattle.text.specs.Number.{signed}
-use Rattle.text.specs.declared.part.Part.{Part}
-use Rattle.text.specs.declared.part.MaybePart.{MaybePart}
-use Rattle.text.specs.declared.part.MaybePart.the-variants as maybe
+use Rattle.part.specs.declared.Part.{Part}
+use Rattle.part.specs.declared.MaybePart.{MaybePart}
+use Rattle.part.specs.declared.MaybePart.the-variants as maybe
 use Rattle.field.specs.Field.{mnemonicText}
 use Rattle.datetime.specs.declared.Time.{Time}
 use Rattle.datetime.specs.declared.Date.{Date}

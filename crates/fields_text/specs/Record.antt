@@ -4,9 +4,9 @@ use mathlib.Core.List.{List, [], _∷_, _++_}
 use Rattle.text.specs.Number.{signed}
 use Rattle.field.specs.Field.{mnemonicText}
 use Rattle.manufacturer.specs.Maker as maker
-use Rattle.extension.specs.Table.{defsOf}
+use Rattle.table.specs.Table.{defsOf}
 use Rattle.extension.specs.declared.Extension.{Extension}
-use Rattle.extension.specs.declared.table.Table.{Table}
+use Rattle.table.specs.declared.Table.{Table}
 use Rattle.a_record.specs.declared.ARecord.{ARecord}
 use Rattle.b_record.specs.BRecord.{fixLetter}
 use Rattle.b_record.specs.declared.BRecord.{BRecord}

@@ -3,10 +3,10 @@ use Prim.Native.Nat.{ℕ}
 use mathlib.Core.List.{List, [], _∷_, _++_}
 use lib.ListN.{length}
 use Rattle.text.specs.Res.{Res, ok, no, pick, numberOf, _≤?_}
-use Rattle.text.specs.declared.part.Part.{Part}
+use Rattle.part.specs.declared.Part.{Part}
 use Rattle.field.specs.Field.{mnemonicText}
 use Rattle.field.specs.declared.Mnemonic.{Mnemonic}
-use Rattle.extension.specs.Table.{defsOf}
+use Rattle.table.specs.Table.{defsOf}
 use Rattle.extension.specs.declared.Extension.{Extension}
 use Rattle.held.specs.Held.{isSet, lookUp}
 use Rattle.held.specs.declared.Held.{Held}

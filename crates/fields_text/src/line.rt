@@ -4,13 +4,13 @@ ghost use Rattle.records.specs.Record.{readingRes};
 ghost use Rattle.fields_text.specs.Line.{bookShown, printedShown, seen, fieldsShown, fieldsLine};
 use crate::piece::put_raw;
 use crate::record::put_record;
-use extension::table::Table;
 use held::Held;
 use listing_text::put_head;
 use print::put::put_byte;
 use print::put::put_bytes;
 use records::Reading;
 use records::Record;
+use table::Table;
 
 // `y` or `n` for by the book; nothing of a line that is not read.
 fn put_book(rec: Record, buf: &mut [u8], at: usize) -> usize

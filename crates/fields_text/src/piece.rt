@@ -8,11 +8,11 @@ use datetime::Date;
 use datetime::Time;
 use manufacturer::MaybeLetter;
 use manufacturer::MaybeTriple;
+use part::MaybePart;
+use part::Part;
 use print::put::put_byte;
 use print::put::put_i16;
 use print::put::put_nat;
-use text::part::MaybePart;
-use text::part::Part;
 
 pub fn put_number(n: u64, buf: &mut [u8], at: usize) -> usize
     ensures { λ r. ⌜ Wrote (now (buf .entry)) at (number n) (now (buf .exit)) r ⌝ }

@@ -1,5 +1,5 @@
 // The fields of a record, one form for each kind.
-ghost use Rattle.extension.specs.Table.{defsOf};
+ghost use Rattle.table.specs.Table.{defsOf};
 ghost use Rattle.print.specs.Put.{Wrote};
 ghost use Rattle.fields_text.specs.Record.{aShown, fixShown, bShown, taskShown, declarationShown, turnpointShown, hShown, definitionShown, definitionsShown, tableShown, recordShown};
 use crate::piece::put_date;
@@ -20,13 +20,13 @@ use b_record::BRecord;
 use c_record::CRecordDeclaration;
 use c_record::CRecordTurnpoint;
 use extension::Extension;
-use extension::table::Table;
 use h_record::HRecord;
 use held::Held;
 use print::put::put_byte;
 use print::put::put_i8;
 use print::put::put_nat;
 use records::Record;
+use table::Table;
 
 // The maker's two codes, unique id, id extension.
 fn put_a(a: ARecord, buf: &mut [u8], at: usize) -> usize

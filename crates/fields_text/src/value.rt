@@ -3,20 +3,20 @@ ghost use mathlib.Core.Path.{_≡_};
 ghost use Prim.Native.Nat.{_<_, suc};
 ghost use mathlib.Core.List.{_∷_};
 ghost use lib.ListN.{length, drop};
-ghost use Rattle.text.specs.Line.{foundRes};
+ghost use Rattle.part.specs.Part.{foundRes};
 ghost use Rattle.print.specs.Put.{Wrote};
-ghost use Rattle.extension.specs.Table.{defsOf};
+ghost use Rattle.table.specs.Table.{defsOf};
 ghost use Rattle.fields_text.specs.Value.{foundText, valueShown, tableNames, askedFor, valuesShown};
 use crate::piece::put_place;
 use b_record::BRecord;
-use extension::table::Table;
 use field::Mnemonic;
 use held::Held;
 use held::Slot;
+use part::Found;
+use part::Part;
 use print::put::put_byte;
 use print::put::put_nat;
-use text::part::Found;
-use text::part::Part;
+use table::Table;
 
 // 0 with the value's place behind `@`, or the refusal's number.
 fn put_found(found: Found, buf: &mut [u8], at: usize) -> usize

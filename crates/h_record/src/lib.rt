@@ -2,17 +2,17 @@
 ghost use mathlib.Core.Path.{_≡_};
 ghost use Prim.Native.Nat.{_+_, _≤_};
 ghost use lib.ListN.{length, drop};
-ghost use Rattle.text.specs.Line.{findPart, findMaybe, partBytes, maybeBytes, shown, Shows};
+ghost use Rattle.part.specs.Part.{findPart, findMaybe, partBytes, maybeBytes, shown, Shows};
 ghost use Rattle.print.specs.Put.{Wrote};
 ghost use Rattle.print.specs.Print.{Prints};
 ghost use Rattle.h_record.specs.HRecord.{sourceByte, sourceOf, colonIn, named, readH, charText, nameText, dataText, hBody, hText, hRes};
 use field::is_ascii;
+use part::Found;
+use part::MaybePart;
+use part::Part;
 use print::printed::Printed;
 use print::put::put_byte;
 use print::put::put_part;
-use text::part::Found;
-use text::part::MaybePart;
-use text::part::Part;
 use text::refusal::Refusal;
 
 pub enum DataSource {

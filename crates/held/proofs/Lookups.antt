@@ -9,12 +9,12 @@ use lib.Seq.{drop-cons, getD-take, length-take-le}
 use Rattle.text.specs.Res.{Res, ok, no, pick}
 use Rattle.text.specs.declared.refusal.Refusal.{Refusal}
 use Rattle.text.specs.declared.refusal.Refusal.the-variants.{NoDefinition}
-use Rattle.text.specs.declared.part.Part.{Part}
+use Rattle.part.specs.declared.Part.{Part}
 use Rattle.text.proofs.Steps.{off, stop}
 use Rattle.field.specs.declared.Mnemonic.{Mnemonic}
-use Rattle.extension.specs.Table.{empty, defsOf}
+use Rattle.table.specs.Table.{empty, defsOf}
 use Rattle.extension.specs.declared.Extension.{Extension}
-use Rattle.extension.specs.declared.table.Table.{Table}
+use Rattle.table.specs.declared.Table.{Table}
 use Rattle.held.specs.Held.{isSet, noTable, setBy, sameName, firstNamed, define, lookUp}
 use Rattle.held.specs.declared.Held.{Held}
 

@@ -6,9 +6,9 @@ use lib.ListN.{length}
 use Rattle.text.specs.Res.{Res, ok, no, bind, guard, pick, _≤?_, _=?_, _∧?_}
 use Rattle.text.specs.Line.{byte}
 use Rattle.text.specs.declared.refusal.Refusal.the-variants.{NoDefinition}
-use Rattle.text.specs.declared.part.Part.{Part}
+use Rattle.part.specs.declared.Part.{Part}
 use Rattle.field.specs.declared.Mnemonic.{Mnemonic}
-use Rattle.extension.specs.Table.{tableOf, readTable, defsOf}
+use Rattle.table.specs.Table.{tableOf, readTable, defsOf}
 use Rattle.extension.specs.Value.{findValue}
 use Rattle.extension.specs.declared.Extension.{Extension}
 use Rattle.held.specs.declared.Slot.{Slot}

@@ -1,17 +1,17 @@
 // What the lines of one letter leave in force, a table of definitions or none, and lookup by name in it.
 ghost use mathlib.Core.Path.{_≡_};
 ghost use Prim.Native.Nat.{_≤_};
-ghost use Rattle.text.specs.Line.{foundRes, shown, Shows};
+ghost use Rattle.part.specs.Part.{foundRes, shown, Shows};
 ghost use Rattle.extension.specs.Extension.{extensionRes};
-ghost use Rattle.extension.specs.Table.{readTable, defsOf};
+ghost use Rattle.table.specs.Table.{readTable, defsOf};
 ghost use Rattle.held.specs.Held.{noTable, setBy, begins as Held·begins, heldAfter, sameName, firstNamed, define, lookUp};
 use extension::Extension;
 use extension::ExtensionRead;
-use extension::table::Table;
-use extension::table::Verdict;
 use field::Mnemonic;
-use text::part::Found;
-use text::part::Part;
+use part::Found;
+use part::Part;
+use table::Table;
+use table::Verdict;
 use text::refusal::Refusal;
 
 pub enum Slot {

@@ -7,7 +7,7 @@ use native.Mathlib.Nat.{zero-add, add-zero, add-assoc}
 use native.Mathlib.Omega.{arith}
 use lib.ListN.{length, drop}
 use Rattle.text.specs.Res.{Res, pick}
-use Rattle.text.specs.Line.{bytesOf, findPart, shown}
+use Rattle.part.specs.Part.{bytesOf, findPart, shown}
 use Rattle.print.specs.Put.{Wrote}
 use Rattle.print.proofs.Writing.{then}
 use Rattle.records.specs.Record.{readLine}

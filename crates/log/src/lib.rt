@@ -2,9 +2,9 @@
 ghost use mathlib.Core.Path.{_≡_};
 ghost use Prim.Native.Nat.{_+_, _≤_, _<_};
 ghost use lib.ListN.{length, drop};
-ghost use Rattle.text.specs.Line.{findPart, shown, Shows};
+ghost use Rattle.part.specs.Part.{findPart, shown, Shows};
 ghost use Rattle.log.specs.Line.{upTo, endOf, cutAt};
-use text::part::Part;
+use part::Part;
 
 // A line as a part of the log, and the place after it.
 pub struct Cut {

@@ -1,18 +1,16 @@
 -- Printers: three laws prove them all.
 use mathlib.Core.Path.{_≡_, refl, sym, _∙_}
-use mathlib.Core.Bool.{Bool, true, false}
 use mathlib.Core.List.{List, _++_}
 use Prim.Native.Nat.{ℕ, _≤_, _<_}
 use native.Mathlib.Nat.{zero-add}
 use native.Mathlib.Omega.{arith}
 use lib.ListN.{length, drop}
 use lib.Seq.{sets, sets-eq}
-use Rattle.text.specs.Res.{Res, ok, no, bind, guard, pick, _≤?_}
-use Rattle.print.specs.Put.{place, Wrote}
+use Rattle.text.specs.Res.{Res, ok, no, bind, guard, pick}
+use Rattle.print.specs.Put.{Wrote}
 use Rattle.print.specs.Print.{answerTo, leftBy, Prints}
 use Rattle.text.specs.declared.refusal.Refusal.{Refusal}
 use Rattle.text.specs.declared.refusal.Refusal.the-variants.{NoRoom}
-use Rattle.print.specs.declared.printed.Printed.{Printed}
 use Rattle.print.specs.declared.printed.Printed.the-variants.{Written, Refused}
 use Rattle.text.proofs.Steps.{yes≤, no≤}
 

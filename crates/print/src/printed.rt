@@ -1,12 +1,12 @@
 // Printers: the whole text into lent bytes, or a refusal that leaves them as they were.
 ghost use Rattle.text.specs.Res.{ok};
 ghost use Rattle.text.specs.Number.{signed};
-ghost use Rattle.text.specs.Line.{partText};
+ghost use Rattle.part.specs.Part.{partText};
 ghost use Rattle.print.specs.Print.{Prints};
 use crate::put::put_int;
 use crate::put::put_part;
-use text::part::Found;
-use text::part::Part;
+use part::Found;
+use part::Part;
 use text::refusal::Refusal;
 
 // The length written, or the refusal.

@@ -5,10 +5,10 @@ ghost use Prim.Native.Nat.{_+_, _-_};
 ghost use mathlib.Core.List.{[], _∷_};
 ghost use lib.ListN.{replicate};
 ghost use Rattle.text.specs.Number.{digits, placesOf, padded, signed};
-ghost use Rattle.text.specs.Line.{partBytes, maybeBytes};
+ghost use Rattle.part.specs.Part.{partBytes, maybeBytes};
 ghost use Rattle.print.specs.Put.{place, Wrote, splitOf};
-use text::part::MaybePart;
-use text::part::Part;
+use part::MaybePart;
+use part::Part;
 
 // The place n after `at`, or the largest usize where there is no such place: no buffer is that long.
 fn after(at: usize, n: usize) -> usize

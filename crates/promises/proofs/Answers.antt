@@ -2,7 +2,8 @@
 use mathlib.Core.Path.{_≡_, refl}
 use Rattle.text.specs.Res.{Res}
 use Rattle.text.specs.declared.refusal.Refusal.{Refusal}
-use Rattle.text.proofs.Answers.{made, told, u8-undone, u16-undone, i8-undone, i16-undone, found-undone, shows-one}
+use Rattle.text.proofs.Answers.{made, told, u8-undone, u16-undone, i8-undone, i16-undone}
+use Rattle.part.proofs.Answers.{found-undone, shows-one}
 use Rattle.print.proofs.Answers.{prints-one, wrote-one}
 use Rattle.datetime.proofs.Answers.{time-undone, date-undone}
 use Rattle.coord.proofs.Answers.{latitude-undone, longitude-undone, position-undone}

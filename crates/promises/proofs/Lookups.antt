@@ -5,15 +5,15 @@ use mathlib.Core.Bool.{Bool, true, false}
 use mathlib.Core.List.{List, [], _∷_}
 use native.Mathlib.Omega.{arith}
 use Rattle.text.specs.Res.{Res, ok, no, bind, guard, pick}
-use Rattle.text.specs.Line.{findPart}
+use Rattle.part.specs.Part.{findPart}
 use Rattle.text.specs.declared.refusal.Refusal.{Refusal}
 use Rattle.text.specs.declared.refusal.Refusal.the-variants.{NoDefinition}
-use Rattle.text.specs.declared.part.Part.{Part}
+use Rattle.part.specs.declared.Part.{Part}
 use Rattle.text.proofs.Steps.{on, pass, yes≤, is≤, isnt≤}
-use Rattle.text.proofs.Lines.{inside}
+use Rattle.part.proofs.Parts.{inside}
 use Rattle.text.proofs.Finds.{Finds, finds-guard}
 use Rattle.field.specs.declared.Mnemonic.{Mnemonic}
-use Rattle.extension.specs.Table.{defsOf}
+use Rattle.table.specs.Table.{defsOf}
 use Rattle.extension.specs.Value.{findValue}
 use Rattle.extension.specs.declared.Extension.{Extension}
 use Rattle.held.specs.Held.{sameName, firstNamed, define, lookUp}

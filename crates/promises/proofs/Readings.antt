@@ -1,7 +1,7 @@
 -- The starred readings hold, by computation.
 use mathlib.Core.Path.{refl}
 use Rattle.text.specs.Res.{bind, guard, pick, _≤?_, _=?_, _∧?_, _∨?_}
-use Rattle.text.specs.Line.{bytesOf, findPart, findMaybe, textOf, partText, maybeText, restFrom, nameFrom}
+use Rattle.part.specs.Part.{bytesOf, findPart, findMaybe, textOf, partText, maybeText, restFrom, nameFrom}
 use Rattle.text.specs.Number.{isDigit, allDigits, valueFrom, readDigits, readNat, readInt, digits, placesIn, placesOf, padded, signed, zeros}
 use Rattle.field.specs.Field.{isAscii, cut, columns, sized, asciiIn, ascii, field, mnemonicText}
 use Rattle.datetime.specs.Three.{readThree, threeText}
@@ -10,7 +10,7 @@ use Rattle.datetime.specs.Date.{dateOf, readDate, dateText}
 use Rattle.coord.specs.Coord.{letterOf, signOf, coordOf, readCoord, latitude, readLatitude}
 use Rattle.manufacturer.specs.Maker as maker
 use Rattle.extension.specs.Extension.{readDefinition, readExtension}
-use Rattle.extension.specs.Table.{readDefs, readBody, readTable}
+use Rattle.table.specs.Table.{readDefs, readBody, readTable}
 use Rattle.extension.specs.Value.{findValue}
 use Rattle.a_record.specs.ARecord.{aNew, aOf, letterForm, longForm, readTriple, readA, tripleText, aBody, aText}
 use Rattle.c_record.specs.CRecord.{turns, readFlight, readTask, readDeclaration, flightText, taskText, declarationBody, declarationText}

@@ -7,7 +7,7 @@ use lib.ListN.{length}
 use Rattle.text.specs.Res.{Res, ok, no, pick, _=?_, _∨?_}
 use Rattle.text.specs.Line.{byte}
 use Rattle.text.proofs.Steps.{is=, both, pass, on}
-use Rattle.extension.specs.Table.{readTable}
+use Rattle.table.specs.Table.{readTable}
 use Rattle.extension.specs.declared.Extension.{Extension}
 use Rattle.records.specs.Record.{kindOf, readKind, readLine}
 use Rattle.records.specs.declared.Record.{Record}

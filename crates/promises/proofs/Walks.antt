@@ -7,7 +7,7 @@ use mathlib.Core.Bool.{Bool, true, false}
 use lib.ListN.{length, take, drop}
 use lib.Seq.{take-all}
 use Rattle.text.specs.Res.{Res, ok, no, pick, _≤?_, _∧?_}
-use Rattle.text.specs.Line.{bytesOf}
+use Rattle.part.specs.Part.{bytesOf}
 use Rattle.text.proofs.Steps.{first, second, yes≤, no≤, is≤, isnt≤, and, fails}
 use Rattle.print.specs.Put.{largest}
 use Rattle.records.specs.Record.{readLine, readingRes}

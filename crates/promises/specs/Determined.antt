@@ -7,8 +7,8 @@ use mathlib.Core.List.{List}
 use denote.Ref.{RefT, now}
 use Rattle.text.specs.Res.{Res}
 use Rattle.text.specs.Number.{u8Res, u16Res, i8Res, i16Res}
-use Rattle.text.specs.Line.{foundRes, Shows}
-use Rattle.text.specs.declared.part.Part.{Part}
+use Rattle.part.specs.Part.{foundRes, Shows}
+use Rattle.part.specs.declared.Part.{Part}
 use Rattle.print.specs.Put.{Wrote}
 use Rattle.print.specs.Print.{Prints}
 use Rattle.print.specs.declared.printed.Printed.{Printed}

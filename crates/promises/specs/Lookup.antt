@@ -7,9 +7,9 @@ use lib.ListN.{length}
 use Rattle.text.specs.Res.{ok, no}
 use Rattle.text.specs.declared.refusal.Refusal.{Refusal}
 use Rattle.text.specs.declared.refusal.Refusal.the-variants.{NoDefinition, OutsideLine, BadExtension, MissingExtension}
-use Rattle.text.specs.declared.part.Part.{Part}
+use Rattle.part.specs.declared.Part.{Part}
 use Rattle.field.specs.declared.Mnemonic.{Mnemonic}
-use Rattle.extension.specs.Table.{defsOf}
+use Rattle.table.specs.Table.{defsOf}
 use Rattle.extension.specs.declared.Extension.{Extension}
 use Rattle.held.specs.Held.{isSet, firstNamed, lookUp}
 use Rattle.held.specs.declared.Held.{Held}

@@ -3,15 +3,15 @@ use Prim.Native.Nat.{ℕ}
 use mathlib.Core.Path.{_≡_}
 use mathlib.Core.List.{List, []}
 use Rattle.text.specs.Res.{Res, ok, no, bind}
-use Rattle.text.specs.Line.{textOf}
+use Rattle.part.specs.Part.{textOf}
 use Rattle.text.specs.Number.{readInt, signed}
 use Rattle.text.specs.declared.refusal.Refusal.the-variants.{Syntax, UnreadableNumber, OutOfRange, BadExtension}
-use Rattle.text.specs.declared.part.MaybePart.the-variants as maybe
+use Rattle.part.specs.declared.MaybePart.the-variants as maybe
 use Rattle.datetime.specs.Time.{readTime, secondsOf}
 use Rattle.coord.specs.Coord.{readLatitude}
 use Rattle.coord.specs.declared.Compass.the-variants.{North}
 use Rattle.manufacturer.specs.declared.Manufacturer.the-variants.{UnknownSingle}
-use Rattle.extension.specs.Table.{tableOf}
+use Rattle.table.specs.Table.{tableOf}
 use Rattle.extension.specs.Value.{findValue}
 use Rattle.c_record.specs.CRecord.{readDeclaration}
 use Rattle.c_record.specs.declared.MaybeDate.the-variants.{Missing, On}

@@ -4,11 +4,12 @@ use mathlib.Core.Bool.{Bool, true}
 use mathlib.Core.List.{List}
 use lib.ListN.{length}
 use Rattle.text.specs.Res.{Res, ok, no, bind, guard, pick, numberOf, _≤?_, _=?_, _∨?_}
-use Rattle.text.specs.Line.{byte, partText}
+use Rattle.text.specs.Line.{byte}
+use Rattle.part.specs.Part.{partText}
 use Rattle.text.specs.declared.refusal.Refusal.the-variants.{Syntax}
-use Rattle.text.specs.declared.part.Part.{Part}
-use Rattle.extension.specs.Table.{readTable, tableText}
-use Rattle.extension.specs.declared.table.Table.{Table}
+use Rattle.part.specs.declared.Part.{Part}
+use Rattle.table.specs.Table.{readTable, tableText}
+use Rattle.table.specs.declared.Table.{Table}
 use Rattle.a_record.specs.ARecord.{readA, aText}
 use Rattle.b_record.specs.BRecord.{readB, bText, bBook}
 use Rattle.c_record.specs.CRecord.{turns, readDeclaration, declarationText, declarationBook, readTurnpoint, turnpointText, turnpointBook}

@@ -2,7 +2,7 @@
 ghost use mathlib.Core.Path.{_≡_};
 ghost use Rattle.text.specs.Res.{bind, ok};
 ghost use Rattle.print.specs.Print.{Prints};
-ghost use Rattle.extension.specs.Table.{readTable};
+ghost use Rattle.table.specs.Table.{readTable};
 ghost use Rattle.records.specs.Record.{kindOf, whole, readC, readLine, recordText, recordBook, acceptedAs, answerOf, readingRes};
 use a_record::ARead;
 use a_record::ARecord;
@@ -13,13 +13,13 @@ use c_record::CRecordTurnpoint;
 use c_record::DeclarationRead;
 use c_record::TurnpointRead;
 use c_record::is_turnpoint;
-use extension::table::Table;
-use extension::table::Verdict;
 use h_record::HRead;
 use h_record::HRecord;
+use part::Part;
 use print::printed::Printed;
 use print::printed::print_part;
-use text::part::Part;
+use table::Table;
+use table::Verdict;
 use text::refusal::Refusal;
 
 // The definitions of an I or a J line stand beside the record, in a `Table`: an enum holds no array.

@@ -9,7 +9,7 @@ use lib.IntN.{ℤ, pos, negℤ}
 use lib.Signed.{mag}
 use lib.ListN.{length, drop, getD}
 use lib.Seq.{drop-cons, drop-length}
-use Rattle.text.specs.Res.{Res, ok, no, guard, bind, pick, _≤?_, _=?_, _∧?_}
+use Rattle.text.specs.Res.{Res, ok, no, guard, pick, _≤?_, _∧?_}
 use Rattle.text.specs.Line.{byte}
 use Rattle.text.specs.Number.{isDigit, allDigits, valueFrom, readDigits, readNat, readInt}
 use Rattle.text.specs.declared.refusal.Refusal.{Refusal}

@@ -1,17 +1,17 @@
 -- A number printed and read, and a number read and printed, once over the width and the range.
 use Prim.Native.Nat.{ℕ, zero, suc, _+_, _-_, _≤_, _<_}
-use mathlib.Core.Path.{_≡_, refl, sym, ap, _∙_}
-use mathlib.Core.Bool.{Bool, true, false}
+use mathlib.Core.Path.{_≡_, refl, sym, _∙_}
+use mathlib.Core.Bool.{true, false}
 use mathlib.Core.List.{List, [], _∷_}
 use native.Mathlib.Omega.{arith}
 use native.Mathlib.Nat.{le-max-right}
 use lib.ListN.{length, drop}
 use lib.IntN.{ℤ, pos, negsuc, negℤ}
 use lib.Signed.{mag}
-use Rattle.text.specs.Res.{Res, ok, bind, guard, pick, _≤?_, _=?_, _∧?_, _∨?_}
+use Rattle.text.specs.Res.{ok, bind, guard, pick, _=?_, _∧?_}
 use Rattle.text.specs.Line.{byte}
 use Rattle.text.specs.Number.{allDigits, valueFrom, readDigits, readNat, readInt, placesOf, padded, signed, zeros, plus, minusZero}
-use Rattle.text.proofs.Steps.{is≤, is=, yes≤, yes=, no=, never, neither}
+use Rattle.text.proofs.Steps.{is≤, is=, yes≤, yes=, no=, never}
 use Rattle.text.proofs.Finds.{Finds, finds-ok, finds-bind, finds-guard, finds-pick}
 use Rattle.text.proofs.Reading.{nat-le, int-mag}
 use Rattle.text.proofs.Decimal.{head-digit, all-padded, value-padded, padded-value, zero-zeros, length-padded, places-pos}

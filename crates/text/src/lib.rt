@@ -1,4 +1,3 @@
 // What every field and every line is read with: refusals, numbers as text, parts of a line.
 pub mod number;
-pub mod part;
 pub mod refusal;

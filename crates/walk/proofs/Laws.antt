@@ -6,9 +6,9 @@ use mathlib.Core.List.{List}
 use native.Mathlib.Omega.{arith}
 use lib.ListN.{length}
 use Rattle.text.specs.Res.{Res, pick, _≤?_, _∧?_}
-use Rattle.text.specs.Line.{bytesOf, findPart, shown}
+use Rattle.part.specs.Part.{bytesOf, findPart, shown}
 use Rattle.text.proofs.Steps.{is≤, both}
-use Rattle.text.proofs.Lines.{shown-found}
+use Rattle.part.proofs.Parts.{shown-found}
 use Rattle.print.specs.Put.{largest}
 use Rattle.records.specs.Record.{readLine, readingRes}
 use Rattle.records.specs.declared.Record.{Record}

@@ -3,8 +3,8 @@ use Prim.Native.Nat.{ℕ, zero, suc}
 use mathlib.Core.Path.{_≡_, refl}
 use mathlib.Core.List.{List, [], _∷_}
 use Rattle.text.specs.Res.{Res, pick}
-use Rattle.text.specs.Line.{bytesOf}
-use Rattle.extension.specs.Table.{readTable}
+use Rattle.part.specs.Part.{bytesOf}
+use Rattle.table.specs.Table.{readTable}
 use Rattle.records.specs.Record.{readLine, readingRes}
 use Rattle.records.specs.declared.Record.{Record}
 use Rattle.log.specs.Log.{Reader, LineRead, Letter}

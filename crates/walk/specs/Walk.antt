@@ -2,7 +2,7 @@
 use Prim.Native.Nat.{ℕ}
 use mathlib.Core.List.{List}
 use Rattle.text.specs.Res.{Res, ok, no}
-use Rattle.text.specs.Line.{bytesOf}
+use Rattle.part.specs.Part.{bytesOf}
 use Rattle.records.specs.Record.{readLine}
 use Rattle.records.specs.declared.Record.{Record}
 use Rattle.records.specs.declared.Reading.{Reading}

@@ -2,7 +2,7 @@
 pub mod cursor;
 
 ghost use mathlib.Core.Path.{_≡_};
-ghost use Rattle.text.specs.Line.{foundRes, shown, Shows};
+ghost use Rattle.part.specs.Part.{foundRes, shown, Shows};
 ghost use Rattle.held.specs.Held.{lookUp};
 ghost use Rattle.walk.specs.Walk.{fresh, stepOf};
 use crate::cursor::Cursor;
@@ -10,10 +10,10 @@ use crate::cursor::Next;
 use b_record::BRecord;
 use field::Mnemonic;
 use held::Held;
+use part::Found;
+use part::Part;
 use records::Reading;
 use records::Record;
-use text::part::Found;
-use text::part::Part;
 
 pub struct Walk {
     pub held: Held,

@@ -1,8 +1,8 @@
 use borrow.Author.Needs.{needs}
 use mathlib.Core.Path.{_≡_}
 use native.Mathlib.Omega.{arith}
-use Rattle.text.specs.Line.{findMaybe}
-use Rattle.text.specs.declared.part.MaybePart.the-variants.{At}
+use Rattle.part.specs.Part.{findMaybe}
+use Rattle.part.specs.declared.MaybePart.the-variants.{At}
 use Rattle.print.proofs.Writing.{then, nothing}
 use Rattle.h_record.specs.HRecord.{nameText}
 use Rattle.h_record.proofs.put_name.Statement.{statement}

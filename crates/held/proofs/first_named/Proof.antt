@@ -4,8 +4,8 @@ use mathlib.Core.Path.{_≡_, refl, sym, _∙_}
 use native.Mathlib.Omega.{arith}
 use lib.ListN.{length, drop}
 use Rattle.text.proofs.Steps.{first, second}
-use Rattle.extension.specs.Table.{defsOf}
-use Rattle.extension.proofs.Defs.{long-under}
+use Rattle.table.specs.Table.{defsOf}
+use Rattle.table.proofs.Defs.{long-under}
 use Rattle.held.specs.Held.{firstNamed}
 use Rattle.held.proofs.Lookups.{first-or-later, none-left}
 use Rattle.held.proofs.first_named.Statement.{statement}

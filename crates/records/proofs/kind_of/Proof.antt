@@ -1,9 +1,6 @@
-use Prim.Native.Nat.{ℕ}
-use mathlib.Core.Path.{_≡_, refl}
 use Rattle.text.specs.Res.{pick, _=?_, _∨?_}
 use Rattle.text.proofs.Steps.{no=}
 use Rattle.records.specs.Record.{isNotTaken, kindOf}
-use Rattle.records.specs.declared.Kind.the-variants as kind
 use Rattle.records.proofs.kind_of.Statement.{statement}
 use Rattle.records.proofs.kind_of.Tie as tie
 

@@ -4,9 +4,9 @@ use mathlib.Core.Path.{_≡_, refl}
 use mathlib.Core.List.{List}
 use denote.Ref.{now}
 use Rattle.text.specs.Res.{ok}
-use Rattle.text.specs.Line.{partBytes, partText, textOf, foundRes}
+use Rattle.part.specs.Part.{partBytes, partText, textOf, foundRes}
 use Rattle.text.proofs.Steps.{came, on, off}
-use Rattle.text.proofs.Lines.{text-found}
+use Rattle.part.proofs.Parts.{text-found}
 use Rattle.print.proofs.Printing.{refused, no-room, written}
 use Rattle.b_record.specs.BRecord.{bBody, bText}
 use Rattle.b_record.specs.declared.BRecord.{BRecord}

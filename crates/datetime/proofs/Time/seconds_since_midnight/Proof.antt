@@ -1,5 +1,4 @@
 use borrow.Author.Needs.{needs}
-use native.Mathlib.Omega.{arith}
 use Rattle.datetime.specs.Time.{secondsOf}
 use Rattle.datetime.proofs.Time.seconds_since_midnight.Statement.{statement}
 use Rattle.datetime.proofs.Time.seconds_since_midnight.Tie as tie

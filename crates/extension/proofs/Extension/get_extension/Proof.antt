@@ -1,6 +1,6 @@
 use borrow.Author.Needs.{needs}
-use mathlib.Core.Path.{_≡_, refl, sym}
-use Rattle.text.specs.Line.{foundRes, shown, bytesOf}
+use mathlib.Core.Path.{refl, sym}
+use Rattle.part.specs.Part.{foundRes, shown, bytesOf}
 use Rattle.text.proofs.Steps.{came}
 use Rattle.extension.proofs.Values.{value-shown}
 use Rattle.extension.proofs.Extension.get_extension.Statement.{statement}

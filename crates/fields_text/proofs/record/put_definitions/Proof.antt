@@ -6,8 +6,8 @@ use lib.ListN.{length, take}
 use lib.Seq.{take-all}
 use Rattle.print.specs.Put.{Wrote}
 use Rattle.print.proofs.Writing.{kept, nothing}
-use Rattle.extension.specs.Table.{defsOf}
-use Rattle.extension.proofs.Defs.{long-under}
+use Rattle.table.specs.Table.{defsOf}
+use Rattle.table.proofs.Defs.{long-under}
 use Rattle.fields_text.specs.Record.{definitionShown, definitionsShown}
 use Rattle.fields_text.proofs.Rows.{Row, in-turn}
 use Rattle.fields_text.proofs.Names.{count-defs, defined}

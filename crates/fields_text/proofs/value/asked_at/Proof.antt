@@ -5,7 +5,7 @@ use mathlib.Core.List.{List}
 use native.Mathlib.Omega.{arith}
 use denote.Ref.{now}
 use lib.ListN.{length}
-use Rattle.extension.proofs.Defs.{long-under}
+use Rattle.table.proofs.Defs.{long-under}
 use Rattle.held.specs.declared.Held.{Held}
 use Rattle.fields_text.specs.Value.{tableNames, namesIn}
 use Rattle.fields_text.proofs.Names.{in-threes, spelt, count-defs, has, named, given, of-table}

@@ -2,7 +2,7 @@ use borrow.Author.Needs.{needs}
 use mathlib.Core.Path.{_≡_}
 use native.Mathlib.Omega.{arith}
 use lib.ListN.{length}
-use Rattle.extension.proofs.Defs.{long-under}
+use Rattle.table.proofs.Defs.{long-under}
 use Rattle.fields_text.proofs.Names.{count-defs}
 use Rattle.fields_text.proofs.value.definition_count.Statement.{statement}
 use Rattle.fields_text.proofs.value.definition_count.Tie as tie

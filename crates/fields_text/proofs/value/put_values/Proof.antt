@@ -6,7 +6,7 @@ use native.Mathlib.Omega.{arith}
 use lib.ListN.{take}
 use lib.Seq.{take-all}
 use denote.Ref.{now}
-use Rattle.text.specs.declared.part.Part.{Part}
+use Rattle.part.specs.declared.Part.{Part}
 use Rattle.print.specs.Put.{Wrote}
 use Rattle.print.proofs.Writing.{kept, nothing}
 use Rattle.held.specs.declared.Held.{Held}

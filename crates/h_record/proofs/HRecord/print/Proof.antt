@@ -2,10 +2,10 @@ use borrow.Author.Needs.{needs}
 use mathlib.Core.Path.{_≡_, refl}
 use denote.Ref.{now}
 use Rattle.text.specs.Res.{Res, ok, no}
-use Rattle.text.specs.Line.{findPart, findMaybe, partText, maybeText, textOf, foundRes}
-use Rattle.text.specs.declared.part.Part.{Part}
+use Rattle.part.specs.Part.{findPart, findMaybe, partText, maybeText, textOf, foundRes}
+use Rattle.part.specs.declared.Part.{Part}
 use Rattle.text.proofs.Steps.{came, on, off}
-use Rattle.text.proofs.Lines.{text-found}
+use Rattle.part.proofs.Parts.{text-found}
 use Rattle.print.proofs.Printing.{refused, no-room, written}
 use Rattle.h_record.specs.HRecord.{hText}
 use Rattle.h_record.proofs.HRecord.print.Statement.{statement}

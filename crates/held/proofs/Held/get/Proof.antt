@@ -1,7 +1,7 @@
 use borrow.Author.Needs.{needs}
 use mathlib.Core.Path.{refl, sym}
 use Rattle.text.specs.Res.{bind}
-use Rattle.text.specs.Line.{shown, bytesOf}
+use Rattle.part.specs.Part.{shown, bytesOf}
 use Rattle.text.proofs.Steps.{came}
 use Rattle.extension.specs.Extension.{extensionRes}
 use Rattle.held.specs.Held.{lookUp}

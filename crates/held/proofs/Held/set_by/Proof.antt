@@ -2,12 +2,12 @@ use borrow.Author.Needs.{needs}
 use mathlib.Core.Path.{_≡_, sym, ap, _∙_}
 use mathlib.Core.List.{List}
 use Rattle.text.specs.Res.{Res, ok, no}
-use Rattle.extension.specs.Table.{tableRead}
+use Rattle.table.specs.Table.{tableRead}
 use Rattle.extension.specs.declared.Extension.{Extension}
-use Rattle.extension.specs.declared.table.Table.{Table}
-use Rattle.extension.specs.declared.table.TableRead.{TableRead}
-use Rattle.extension.specs.declared.table.Verdict.{Verdict}
-use Rattle.extension.specs.declared.table.Verdict.the-variants.{Accepted, Refused}
+use Rattle.table.specs.declared.Table.{Table}
+use Rattle.table.specs.declared.TableRead.{TableRead}
+use Rattle.table.specs.declared.Verdict.{Verdict}
+use Rattle.table.specs.declared.Verdict.the-variants.{Accepted, Refused}
 use Rattle.held.specs.Held.{noTable, setBy}
 use Rattle.held.specs.declared.Held.{Held}
 use Rattle.held.specs.declared.Slot.{Slot}

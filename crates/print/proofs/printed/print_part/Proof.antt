@@ -4,10 +4,10 @@ use mathlib.Core.Path.{_≡_}
 use mathlib.Core.List.{List}
 use denote.Ref.{now}
 use Rattle.text.specs.Res.{ok, no}
-use Rattle.text.specs.Line.{findPart, partText, textOf, foundRes}
-use Rattle.text.specs.declared.part.Part.{Part}
+use Rattle.part.specs.Part.{findPart, partText, textOf, foundRes}
+use Rattle.part.specs.declared.Part.{Part}
 use Rattle.text.proofs.Steps.{came, off}
-use Rattle.text.proofs.Lines.{text-found}
+use Rattle.part.proofs.Parts.{text-found}
 use Rattle.print.proofs.Printing.{refused, no-room, written}
 use Rattle.print.proofs.printed.print_part.Statement.{statement}
 use Rattle.print.proofs.printed.print_part.Tie as tie

@@ -1,5 +1,4 @@
 use borrow.Author.Needs.{needs}
-use mathlib.Core.Path.{refl}
 use Rattle.records.specs.Record.{answerOf}
 use Rattle.records.proofs.Reading.number.Statement.{statement}
 use Rattle.records.proofs.Reading.number.Tie as tie

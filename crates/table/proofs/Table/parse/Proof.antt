@@ -1,0 +1,69 @@
+use borrow.Author.Needs.{needs}
+use Prim.Native.Nat.{ℕ, _≤_}
+use mathlib.Core.Path.{_≡_, refl, ap, _∙_}
+use mathlib.Core.Bool.{true}
+use mathlib.Core.List.{List}
+use native.Mathlib.Omega.{arith}
+use lib.ListN.{length, length-take, length-drop}
+use denote.Ref.{now}
+use Rattle.text.specs.Res.{ok, no}
+use Rattle.text.specs.Number.{readNat, u8Res}
+use Rattle.text.proofs.Steps.{came, on, off, pass, stop, yes≤, no≤, yes=, no=, so-true, so-false}
+use Rattle.field.specs.Field.{isAscii, cut, columns, asciiIn, ascii}
+use Rattle.table.specs.Table.{readBody, readTable, tableRead}
+use Rattle.table.proofs.Counts.{two-characters}
+use Rattle.table.proofs.Table.parse.Statement.{statement}
+use Rattle.table.proofs.Table.parse.Tie as tie
+
+abbrev line : tie.Start → List ℕ
+line b = now (b .args .line)
+
+long : (c : tie.Else1) → 3 ≤ length (line (search needs))
+long c = c .if1 .left
+
+plain : (c : tie.Else2) → isAscii (line (search needs)) ≡ true
+plain c = search (so-true)
+
+count : (c : tie.After-count) → ok (c .count .given .0 .0) ≡ columns 1 3 (readNat 255) (line (search needs))
+unfolding columns cut
+count c = came u8Res (c .count .given .1) (c .before .before .read-u8 .ensures)
+
+no-count : (c : tie.After-no-count) → no (c .no-count .given .0 .0) ≡ columns 1 3 (readNat 255) (line (search needs))
+unfolding columns cut
+no-count c = came u8Res (c .no-count .given .1) (c .before .before .read-u8 .ensures)
+
+at-most-99 : (c : tie.After-count) → c .count .given .0 .0 ≤ 99
+unfolding columns cut
+at-most-99 c = two-characters 255 (cut 1 3 (line (search needs))) (simp (length-take, length-drop) (omega arith)) (count c)
+
+fits : tie.Need-parse-defs-requires
+fits c κs = (at-most-99 (search needs), simp (length-take, length-drop) (omega arith))
+
+pub parse-spec : {M : Type 1} → statement M
+unfolding readTable readBody ascii asciiIn columns cut
+parse-spec =
+    tie.close
+    (tie.spec
+    (search needs)
+    (λ c. c .refused .ensures ∙ ap tableRead (stop _ (no≤ (search needs))))
+    (search needs)
+    (search needs)
+    (λ c. c .refused2 .ensures ∙ ap tableRead (pass _ (yes≤ (long (search needs))) (stop _ (search (so-false)))))
+    (search needs)
+    (search needs)
+    (search needs)
+    (search needs)
+    (search needs)
+    (search needs)
+    (search needs)
+    (search needs)
+    (search needs)
+    (λ c. c .refused3 .ensures ∙ ap tableRead (pass _ (yes≤ (long (search needs))) (pass _ (plain (search needs)) (on _ (count (search needs)) (stop _ (no= (search needs)))))))
+    (search needs)
+    (search needs)
+    (search needs)
+    fits
+    (search needs)
+    (search needs)
+    (λ c. c .parse-defs .ensures ∙ ap tableRead (pass _ (yes≤ (long (search needs))) (pass _ (plain (search needs)) (on _ (count (search needs)) (pass _ (yes= (search needs)) refl)))))
+    (λ c. c .refused4 .ensures ∙ ap tableRead (pass _ (yes≤ (long (search needs))) (pass _ (plain (search needs)) (off _ (no-count (search needs)))))))

@@ -1,0 +1,157 @@
+// The table of one I or J line, as the second half of src/records/extension.rs has it, with up to 99 definitions by value.
+ghost use mathlib.Core.Path.{_≡_};
+ghost use mathlib.Core.List.{[]};
+ghost use Prim.Native.Nat.{_*_, _≤_, min};
+ghost use lib.ListN.{length};
+ghost use Rattle.text.specs.Res.{no};
+ghost use Rattle.print.specs.Put.{Wrote};
+ghost use Rattle.print.specs.Print.{Prints};
+ghost use Rattle.table.specs.Table.{tableOf, readDefs, readTable, defsOf, defsText, tableBody, tableText, tableRead};
+use extension::Extension;
+use extension::ExtensionRead;
+use field::Mnemonic;
+use field::is_ascii;
+use print::printed::Printed;
+use print::put::put_byte;
+use print::put::put_nat;
+use text::number::U8Read;
+use text::number::read_u8;
+use text::refusal::Refusal;
+
+pub struct Table {
+    pub defs: [Extension; 99],
+    pub count: u8,
+}
+
+pub enum Verdict {
+    Accepted,
+    Refused(Refusal),
+}
+
+// The verdict stands beside the table: an enum holds no array.
+pub struct TableRead {
+    pub table: Table,
+    pub verdict: Verdict,
+}
+
+// How many of the 99 slots count.
+fn at_most_99(n: u8) -> usize
+    ensures { λ r. ⌜ r ≡ min n 99 ⌝ }
+{
+    if n < 99 { n as usize } else { 99 }
+}
+
+impl Table {
+    // 99 empty slots.
+    pub fn new() -> Table
+        ensures { λ r. ⌜ r ≡ tableOf [] ⌝ }
+    {
+        let none = Extension {
+            mnemonic: Mnemonic(0, 0, 0),
+            start_byte: 0,
+            end_byte: 0,
+        };
+        Table {
+            defs: [none; 99],
+            count: 0,
+        }
+    }
+
+    fn refused(n: Refusal) -> TableRead
+        ensures { λ r. ⌜ r ≡ tableRead (no n) ⌝ }
+    {
+        let table = Table::new();
+        TableRead {
+            table,
+            verdict: Verdict::Refused(n),
+        }
+    }
+
+    // The n definitions of a body, in turn.
+    fn parse_defs(body: &[u8], n: u8) -> TableRead
+        requires { ⌜ (n ≤ 99) × (length (now body) ≡ 7 * n) ⌝ }
+        ensures { λ r. ⌜ r ≡ tableRead (readDefs n (now (body .entry))) ⌝ }
+    {
+        let none = Table::new();
+        let mut table = none;
+        let k = n as usize;
+        let mut i: usize = 0;
+        while i < k {
+            let at = i * 7;
+            let to = at + 7;
+            match Extension::parse(&body[at..to]) {
+                ExtensionRead::Ok(def) => {
+                    table.defs[i] = def;
+                }
+                ExtensionRead::Refused(bad) => {
+                    return TableRead {
+                        table: none,
+                        verdict: Verdict::Refused(bad),
+                    };
+                }
+            }
+            i += 1;
+        }
+        table.count = n;
+        TableRead {
+            table,
+            verdict: Verdict::Accepted,
+        }
+    }
+
+    // The definitions of an I or a J line: its letter is not looked at.
+    pub fn parse(line: &[u8]) -> TableRead
+        ensures { λ r. ⌜ r ≡ tableRead (readTable (now (line .entry))) ⌝ }
+    {
+        if line.len() < 3 {
+            return Table::refused(Refusal::Syntax);
+        }
+        if !is_ascii(line) {
+            return Table::refused(Refusal::NotAscii);
+        }
+        match read_u8(&line[1..3]) {
+            U8Read::Ok(count) => {
+                if line.len() != 3 + 7 * count as usize {
+                    return Table::refused(Refusal::Syntax);
+                }
+                Table::parse_defs(&line[3..], count)
+            }
+            U8Read::Refused(no_count) => Table::refused(no_count),
+        }
+    }
+
+    // The definitions that count, one after the other.
+    fn put_defs(self, buf: &mut [u8], at: usize) -> usize
+        ensures { λ r. ⌜ Wrote (now (buf .entry)) at (defsText (defsOf self)) (now (buf .exit)) r ⌝ }
+    {
+        let n = at_most_99(self.count);
+        let mut next = at;
+        let mut i = 0;
+        while i < n {
+            let def = self.defs[i];
+            next = def.put(buf, next);
+            i += 1;
+        }
+        next
+    }
+
+    fn put(self, letter: u8, buf: &mut [u8], at: usize) -> usize
+        ensures { λ r. ⌜ Wrote (now (buf .entry)) at (tableBody letter self) (now (buf .exit)) r ⌝ }
+    {
+        let count = put_byte(buf, at, letter);
+        let first = put_nat(buf, count, self.count as u64, 2);
+        self.put_defs(buf, first)
+    }
+
+    pub fn print(self, letter: u8, buf: &mut [u8]) -> Printed
+        ensures { λ r. ⌜ Prints (tableText letter self) (now (buf .entry)) (now (buf .exit)) r ⌝ }
+    {
+        if 99 < self.count {
+            return Printed::Refused(Refusal::BadExtension);
+        }
+        if buf.len() < self.put(letter, &mut [], 0) {
+            return Printed::Refused(Refusal::NoRoom);
+        }
+        Printed::Written(self.put(letter, buf, 0))
+    }
+}
