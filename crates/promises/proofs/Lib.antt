@@ -3,3 +3,16 @@ pub mod Walks
 pub mod Answers
 pub mod Replaced
 pub mod Lookups
+pub mod Columns
+pub mod Copies
+pub mod Numbers
+pub mod Times
+pub mod Coords
+pub mod Parts
+pub mod Recorders
+pub mod Fixes
+pub mod Tasks
+pub mod Headers
+pub mod Tables
+pub mod Lines
+pub mod Exceptions

@@ -1,4 +1,6 @@
 pub mod Spelt
+pub mod Odd
+pub mod Back
 pub mod Starred
 pub mod Demand3
 pub mod Lookup

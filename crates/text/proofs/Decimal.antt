@@ -213,8 +213,3 @@ zeros-value (d ∷ ds) h =
     let k = both h in
     let y : 0 * 10 + (d - 48) ≡ 0 = omega (arith, is= (k .0)) in
     rw y (zeros-value ds (k .1))
-
--- a number below 10 ^ w prints in w characters
-pub padded-width : (w n : ℕ) → 0 < w → n < 10 ^ w → length (padded w n) ≡ w
-padded-width zero n p h = absurd (omega arith)
-padded-width (suc w) n p h = length-padded (suc w) n ∙ max-eq-left (places-le w n h)

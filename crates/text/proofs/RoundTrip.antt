@@ -26,7 +26,7 @@ first-digit [] p h = absurd (omega arith)
 first-digit (d ∷ ds) p h = head-digit d ds h .0
 
 -- no sign is a digit
-first-padded : (w n b : ℕ) → b < 48 → (byte 0 (padded w n) =? b) ≡ false
+pub first-padded : (w n b : ℕ) → b < 48 → (byte 0 (padded w n) =? b) ≡ false
 first-padded w n b h = no= (λ e. omega (arith, first-digit (padded w n) (some-padded w n) (all-padded w n)))
 
 digits-padded : (most w n : ℕ) → n ≤ most → readDigits most (padded w n) ≡ ok n

@@ -1,0 +1,44 @@
+-- The texts of a line's parts, and what a whole line is printed as.
+use Prim.Native.Nat.{ℕ, _+_, _≤_}
+use mathlib.Core.Path.{_≡_, refl, sym, ap}
+use mathlib.Core.Bool.{Bool, false}
+use mathlib.Core.List.{List}
+use native.Mathlib.Omega.{arith}
+use native.Mathlib.Nat.{add-sub-cancel-left}
+use lib.ListN.{length, drop, drop-of-length-le}
+use Rattle.text.specs.Res.{Res, ok, bind, pick, _≤?_}
+use Rattle.part.specs.Part.{bytesOf, findPart, findMaybe, textOf, partText, maybeText, restFrom, nameFrom}
+use Rattle.text.proofs.Steps.{on, pass, yes≤, is≤}
+use Rattle.text.proofs.Lines.{cut-rest}
+use Rattle.field.specs.Field.{cut}
+use Rattle.log.proofs.Ends.{either}
+use Rattle.promises.proofs.Copies.{Copy}
+
+module _ (a : ℕ) (s : List ℕ) where
+  pub part-text : (w : ℕ) → a + w ≤ length s → ok (cut a (a + w) s) ≡ partText (record { start = a; len = w }) s
+  unfolding partText textOf findPart bytesOf cut
+  part-text w h = on _ (pass _ (yes≤ h) refl) (rw add-sub-cancel-left)
+
+  pub rest-text : a ≤ length s → ok (drop a s) ≡ partText (restFrom a s) s
+  unfolding partText textOf findPart bytesOf restFrom
+  rest-text h = on _ (pass _ (yes≤ (omega arith)) refl) (ap ok (sym (cut-rest s a)))
+
+  -- an empty name is none, and prints as nothing
+  pub name-text : a ≤ length s → ok (drop a s) ≡ maybeText (nameFrom a s) s
+  unfolding maybeText findMaybe nameFrom partText textOf bytesOf bind pick
+  name-text h = either (length s ≤? a) (λ e. rw (e, drop-of-length-le s {i = a} (is≤ e))) (λ e. rw e (rest-text h))
+
+-- ---- a line
+
+-- m is a text, and it is the line s itself exactly where s is not odd
+pub record Again (odd : Bool) (s : List ℕ) (m : Res (List ℕ)) : Type 0 where
+  pub text : List ℕ
+  pub prints : ok text ≡ m
+  pub same : odd ≡ false → text ≡ s
+  pub only : text ≡ s → odd ≡ false
+
+pub again : {o : Bool} {s t : List ℕ} {m : Res (List ℕ)} → ok t ≡ m → Copy o s t → Again o s m
+again {t} e c = record { text = t; prints = e; same = c .same; only = c .only }
+
+pub always : {s : List ℕ} {m : Res (List ℕ)} → ok s ≡ m → Again false s m
+always {s} e = record { text = s; prints = e; same = λ _. refl; only = λ _. refl }

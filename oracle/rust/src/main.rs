@@ -1,0 +1,133 @@
+//! Runs the Rust beside this reader's program `fields` (../run), and makes the sample that crates/vectors replays (../vectors).
+
+mod compare;
+mod every;
+mod hand;
+mod lines;
+mod logs;
+mod random;
+mod vectors;
+mod view;
+
+use compare::{Class, Tally};
+use logs::{Job, Logs};
+use std::ffi::OsStr;
+use std::io::{Read, Write};
+use std::os::unix::ffi::OsStrExt;
+use std::process::{exit, Command, Stdio};
+use std::sync::mpsc::sync_channel;
+use std::sync::Mutex;
+
+const WORKERS: usize = 2;
+const RANDOM_LINES: usize = 3_000_000;
+
+fn main() {
+    // Panics of the Rust are answers here, caught and counted; only those of the glue are told.
+    std::panic::set_hook(Box::new(|panic| {
+        if !panic.location().map_or(false, |place| place.file().contains("docs/src/src/")) {
+            eprintln!("oracle: {}", panic);
+        }
+    }));
+    let words: Vec<String> = std::env::args().skip(1).collect();
+    let words: Vec<&str> = words.iter().map(String::as_str).collect();
+    match words.as_slice() {
+        ["run", seed, command @ ..] if seed.parse::<u64>().is_ok() && !command.is_empty() => run(seed.parse().unwrap(), command),
+        ["vectors", folder] => vectors::write(folder),
+        ["view"] => {
+            let mut log = Vec::new();
+            std::io::stdin().read_to_end(&mut log).unwrap();
+            for row in view::rows(&log, &[]) {
+                std::io::stdout().write_all(&[&row.text(), &b"\n"[..]].concat()).unwrap();
+            }
+        }
+        _ => {
+            eprintln!("usage: oracle run SEED COMMAND.. | vectors FOLDER | view <LOG");
+            exit(2);
+        }
+    }
+}
+
+/// What `fields` writes for a log. It reads all before it writes, so the two pipes can't block each other.
+fn fields(command: &[&str], job: &Job) -> std::io::Result<Vec<u8>> {
+    let mut child = Command::new(command[0])
+        .args(&command[1..])
+        .args(job.names.iter().map(|name| OsStr::from_bytes(name)))
+        .stdin(Stdio::piped())
+        .stdout(Stdio::piped())
+        .spawn()?;
+    let (stdin, stdout) = (child.stdin.take(), child.stdout.take());
+    stdin.unwrap().write_all(&job.log)?;
+    let mut text = Vec::new();
+    stdout.unwrap().read_to_end(&mut text)?;
+    child.wait()?;
+    Ok(text)
+}
+
+fn run(seed: u64, command: &[&str]) {
+    let (send, receive) = sync_channel::<Job>(8);
+    let receive = Mutex::new(receive);
+    let mut all = Tally::default();
+    std::thread::scope(|scope| {
+        let work = || {
+            let mut tally = Tally::default();
+            loop {
+                let job = receive.lock().unwrap().recv();
+                let job = match job {
+                    Ok(job) => job,
+                    Err(_) => return tally,
+                };
+                match fields(command, &job) {
+                    Ok(text) => tally.compare(&job, &text),
+                    Err(error) => {
+                        eprintln!("oracle: {}: {}", command[0], error);
+                        exit(2);
+                    }
+                }
+            }
+        };
+        let workers: Vec<_> = (0..WORKERS).map(|_| scope.spawn(work)).collect();
+        let mut hand_on = |job| send.send(job).unwrap();
+        let mut logs = Logs::new(&mut hand_on);
+        every::every(&mut logs);
+        random::random(&mut logs, seed, RANDOM_LINES);
+        drop(send);
+        for worker in workers {
+            all.add(worker.join().unwrap());
+        }
+    });
+    report(seed, &all);
+    let asked = hand::asked();
+    let others: Vec<_> = asked.iter().filter(|(_, listed, said)| listed != said).collect();
+    println!("{:>10}  of {} that no line reaches, asked of the Rust by hand, other than listed", others.len(), asked.len());
+    for (what, listed, said) in &others {
+        println!("\n{}\n  listed:   {}\n  the Rust: {}", what, listed, said);
+    }
+    if all.unlisted > 0 || !others.is_empty() {
+        exit(1);
+    }
+}
+
+fn report(seed: u64, all: &Tally) {
+    println!("     lines  compared");
+    for ((_, part), lines) in &all.lines {
+        println!("{:>10}  {}", lines, part);
+    }
+    println!("{:>10}  in {} logs, the random ones from seed {}", all.lines.values().sum::<u64>(), all.logs, seed);
+    print!("\n    answer  of this reader, by the kind of line: how often");
+    let mut of = "";
+    for ((kind, answer), n) in &all.answers {
+        print!("{}{}: {}", if of == *kind { ", ".to_string() } else { format!("\n{:>10}  ", kind) }, answer, n);
+        of = kind;
+    }
+    println!("\n\n{:>10}  panics of the Rust, caught", all.panics);
+    println!("\n    differ  by class, with the smallest input");
+    for class in Class::ALL {
+        if let Some((n, (_, smallest))) = all.classes.get(&class) {
+            println!("{:>10}  {}: `{}`", n, class.title(), smallest);
+        }
+    }
+    println!("{:>10}  in no class", all.unlisted);
+    for shown in &all.shown {
+        println!("\n{}", shown);
+    }
+}

@@ -1,0 +1,114 @@
+//! The sample that crates/vectors replays: a log, and what the Rust wrote for it.
+
+use crate::lines::*;
+use crate::random::{log, Random};
+use crate::view::{lines, rows, How, Row};
+use std::fs;
+
+/// Lines of document 01, and what stands at the edges of the walk and of lookups.
+const FIRST: &[&str] = &[
+    "",
+    "AFLA123",
+    "HFFTYFRTYPE:X",
+    "I013638FXA",
+    "B1015304712345N01102500EA0152301561035",
+    "B1015314712345N01102500EA01523x1561035",
+    "HFFTY",
+    "HFFTY:",
+    "AC00069",
+    "AX12345",
+    "A12345",
+    "AX123456",
+    "A123456",
+    "C230718092044+0+0+0000204",
+    "C230718092044000000000204",
+    "I00",
+    "B1015304712345N01102500EA0152301561035",
+    "I01",
+    "I0x",
+    "I013836FXA",
+    "I063434LOW3636ONE3638FXA3940SIU3636FXA0102OLD",
+    "B1015304712345N01102500EA0152301561",
+    "B1015304712345N01102500EA0152301561035",
+    "B1015304712345N01102500EA01523015610351",
+    "B1015304712345N01102500EA015230156103512",
+    "B1015304712345N01102500EA0152301561035123",
+    "J010812HDT",
+    "B1015304712345N01102500EA015230156103512",
+    "I013x38FXA",
+    "B1015304712345N01102500EA015230156103512",
+    "I013699ALL",
+    "B1015304712345N01102500EA0152301561",
+    "B1015304712345N01102500EA01523015610123456789012345678901234567890123456789012345678901234567890123",
+    "B1015304712345N01102500EA015230156101234567890123456789012345678901234567890123456789012345678901234",
+    "AFLAé12",
+    "AFé12345",
+    "C5156040N00038120é",
+    "HéABC:",
+    "I01é638FX",
+    "J01é638FX",
+    "J0x",
+    "J013836FXA",
+    "Z\r",
+    "\r",
+    "é",
+    " ",
+];
+
+/// Writes `stdin` and `stdout` in the folder.
+pub fn write(folder: &str) {
+    let mut sample = sample();
+    // What differs by a class is left out; that may change the table in force, so it is looked at again.
+    loop {
+        let text = joined(&sample);
+        let rows = rows(&text, &[]);
+        let kept: Vec<Vec<u8>> = rows.iter().filter(|row| is_same(row)).map(|row| row.line.to_vec()).collect();
+        if kept.len() == rows.len() {
+            let seen: Vec<u8> = rows.iter().flat_map(|row| [row.text(), b"\n".to_vec()].concat()).collect();
+            fs::write(format!("{}/stdin", folder), &text).unwrap();
+            fs::write(format!("{}/stdout", folder), seen).unwrap();
+            println!("{} lines", rows.len());
+            return;
+        }
+        sample = kept;
+    }
+}
+
+/// Nothing in the row belongs to a class, but an unreadable number, whose answer is the paper's.
+fn is_same(row: &Row) -> bool {
+    matches!(row.how, How::Plain | How::Number) && row.lookups.iter().all(|lookup| lookup.answer != b"panic")
+}
+
+/// Each third line ends in CR LF, the last one in nothing.
+fn joined(sample: &[Vec<u8>]) -> Vec<u8> {
+    let mut text = Vec::new();
+    for (n, line) in sample.iter().enumerate() {
+        text.extend(line);
+        if n + 1 < sample.len() {
+            text.extend(if n % 3 == 2 || line.ends_with(b"\r") { &b"\r\n"[..] } else { b"\n" });
+        }
+    }
+    text
+}
+
+fn sample() -> Vec<Vec<u8>> {
+    let mut sample: Vec<Vec<u8>> = FIRST.iter().map(|line| line.as_bytes().to_vec()).collect();
+    sample.extend((b'A'..=b'Z').map(|letter| format!("A{}12345", letter as char).into_bytes()));
+    sample.extend(TRIPLES.as_bytes().chunks(3).map(|triple| [b"A", triple, b"Wat"].concat()));
+    for good in GOOD {
+        sample.push(TABLE.to_vec());
+        let bounds = [1, 2, 3, 5, 6, 7, 8, 9, 10, 17, 18, 24, 25, 34, 35, good.len()];
+        sample.extend(bounds.iter().filter(|&&len| len <= good.len()).map(|&len| good.as_bytes()[..len].to_vec()));
+    }
+    for fields in [FIX, DECLARATION, TURNPOINT] {
+        sample.extend(one_edge(fields));
+    }
+    for line in one_edge(DEFINITIONS) {
+        sample.extend([line, FIX_OF_TABLE.to_vec()]);
+    }
+    // Control bytes are left to the large run, so that the sample can be read.
+    let random: Vec<u8> = (0..40).flat_map(|seed| [log(&mut Random(seed), 300), b"\n".to_vec()].concat()).collect();
+    let legible = |line: &&[u8]| !line.is_empty() && !line.iter().any(u8::is_ascii_control);
+    sample.extend(lines(&random).into_iter().filter(legible).map(<[u8]>::to_vec));
+    sample
+}

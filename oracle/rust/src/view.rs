@@ -1,0 +1,318 @@
+//! What the Rust makes of each line of a log, in the words of `fields`.
+//!
+//! Glue, and not the Rust's: cutting lines, the table in force, lookup by name (the first definition of that name), by the book.
+
+use igc::records::{BRecord, DataSource, Extendable, Extension, FixValid, Record};
+use igc::util::{Compass, Date, ParseError, RawCoord, RawPosition, Time};
+use std::io::Write;
+use std::panic::catch_unwind;
+
+pub const LARGEST_LOG: usize = 65536;
+
+pub type Name = [u8; 3];
+
+/// What else is to be known of an answer, for the classes of differences.
+#[derive(Clone, Copy, PartialEq, Eq, Debug)]
+pub enum How {
+    Plain,
+    /// A SyntaxError that came from an unreadable number; the row says 3.
+    Number,
+    /// D, E, F, G, K or L; the row says what the Rust did.
+    NotTaken,
+    /// Not UTF-8; the row is that of the line with `~` in place of each byte from 128 up.
+    NotUtf8,
+}
+
+pub struct Lookup<'l> {
+    pub name: Name,
+    pub definition: Option<Extension<'l>>,
+    pub answer: Vec<u8>,
+}
+
+pub struct Row<'l> {
+    pub line: &'l [u8],
+    pub how: How,
+    /// Up to the lookups: number, letter, answer, fields.
+    pub head: Vec<u8>,
+    pub lookups: Vec<Lookup<'l>>,
+    /// By the book, and the record as printed.
+    pub tail: Vec<u8>,
+}
+
+impl Row<'_> {
+    pub fn text(&self) -> Vec<u8> {
+        let mut text = self.head.clone();
+        for lookup in &self.lookups {
+            text.push(b' ');
+            text.extend(lookup.name);
+            text.push(b'=');
+            text.extend(&lookup.answer);
+        }
+        text.extend(&self.tail);
+        text
+    }
+}
+
+/// A line ends at LF, and one CR directly before it is dropped. What stands after the last LF is a line if it is not empty.
+pub fn lines(log: &[u8]) -> Vec<&[u8]> {
+    let mut lines: Vec<&[u8]> = log.split(|&b| b == b'\n').collect();
+    let last = lines.pop().unwrap_or(b"");
+    for line in &mut lines {
+        *line = line.strip_suffix(b"\r").unwrap_or(line);
+    }
+    if !last.is_empty() {
+        lines.push(last);
+    }
+    lines
+}
+
+pub fn rows<'l>(log: &'l [u8], names: &[Name]) -> Vec<Row<'l>> {
+    let mut table = None;
+    lines(log).into_iter().zip(1..).map(|(line, number)| row(number, line, &mut table, names)).collect()
+}
+
+type Table<'l> = Option<Vec<Extension<'l>>>;
+
+fn row<'l>(number: usize, line: &'l [u8], table: &mut Table<'l>, names: &[Name]) -> Row<'l> {
+    let first = line.first().copied().unwrap_or(0);
+    let letter = if first.is_ascii_uppercase() { first } else { b'-' };
+    let mut row = Row { line, how: How::Plain, head: Vec::new(), lookups: Vec::new(), tail: Vec::new() };
+    write!(row.head, "{} {} ", number, letter as char).unwrap();
+    if first == b'I' {
+        *table = None;
+    }
+    match std::str::from_utf8(line) {
+        Ok(text) => match read(text, &mut row) {
+            Some(Record::B(fix)) => row.lookups = lookups(&fix, text, table, names),
+            Some(Record::I(record)) => *table = Some(record.0.extensions),
+            _ => {}
+        },
+        Err(_) => {
+            if fails_ascii(line) {
+                row.head.extend(b"2");
+            } else {
+                read(std::str::from_utf8(&low(line)).unwrap(), &mut row);
+            }
+            if row.how != How::NotTaken {
+                row.how = How::NotUtf8;
+            }
+        }
+    }
+    row
+}
+
+/// With `~` in place of each byte from 128 up.
+pub fn low(bytes: &[u8]) -> Vec<u8> {
+    bytes.iter().map(|&b| if b.is_ascii() { b } else { b'~' }).collect()
+}
+
+/// Whether a line meets the ASCII test of its kind and fails it, which the Rust can't be asked of bytes that are not UTF-8. On
+/// lines that are, the Rust has to agree (`read`).
+fn fails_ascii(line: &[u8]) -> bool {
+    let len = line.len();
+    let high = |from: usize, to: usize| !line[from..to].is_ascii();
+    let digits = |from: usize, to: usize| line[from..to].iter().all(u8::is_ascii_digit);
+    match line.first() {
+        Some(b'A') if len >= 7 => {
+            if digits(2, 7) {
+                high(1, 2)
+            } else if len >= 9 && digits(4, 9) {
+                high(0, 4)
+            } else {
+                high(0, 7)
+            }
+        }
+        Some(b'B') => len >= 35 && high(0, len),
+        Some(b'C') if len >= 9 => {
+            let columns = if matches!(line[8], b'N' | b'S') { 18 } else { 25 };
+            len >= columns && high(0, columns)
+        }
+        Some(b'H') => len >= 6 && high(0, 5),
+        Some(b'I' | b'J') => len >= 3 && high(0, len),
+        _ => false,
+    }
+}
+
+/// Asks the Rust for one line: the answer and the fields go to the head, by the book and the printed text to the tail.
+fn read<'t>(text: &'t str, row: &mut Row) -> Option<Record<'t>> {
+    let asked = match catch_unwind(|| Record::parse_line(text)) {
+        Ok(asked) => asked,
+        Err(_) => {
+            row.head.extend(b"panic");
+            return None;
+        }
+    };
+    if matches!(text.as_bytes().first(), Some(b'D' | b'E' | b'F' | b'G' | b'K' | b'L')) {
+        row.how = How::NotTaken;
+        row.head.extend(if asked.is_ok() { b"read".as_slice() } else { b"refused" });
+        return None;
+    }
+    if fails_ascii(text.as_bytes()) != matches!(asked, Err(ParseError::NonASCIICharacters)) {
+        row.head.extend(b"glue:fails_ascii ");
+    }
+    match asked {
+        Ok(record) => {
+            accepted(text, &record, row);
+            Some(record)
+        }
+        Err(error) => {
+            let answer = refusal(&error, text);
+            if answer == "3" {
+                row.how = How::Number;
+            }
+            row.head.extend(answer.as_bytes());
+            None
+        }
+    }
+}
+
+fn refusal(error: &ParseError, text: &str) -> &'static str {
+    match error {
+        ParseError::SyntaxError => match numbers::records::Record::parse_line(text) {
+            Err(numbers::util::ParseError::SyntaxError) => "1",
+            Err(numbers::util::ParseError::UnreadableNumber) => "3",
+            _ => "glue:numbers",
+        },
+        ParseError::NonASCIICharacters => "2",
+        ParseError::NumberOutOfRange => "4",
+        ParseError::BadExtension => "5",
+        ParseError::MissingExtension => "6",
+        ParseError::IOError(_) | ParseError::Utf8Error(_) => "glue:error",
+    }
+}
+
+fn accepted(line: &str, record: &Record, row: &mut Row) {
+    let head = &mut row.head;
+    let part = |text: &str| format!("{}+{}", text.as_ptr() as usize - line.as_ptr() as usize, text.len());
+    let maybe = |text: &Option<&str>| text.map_or("-".to_string(), part);
+    if let Record::Unrecognised(_) = record {
+        write!(head, "12").unwrap();
+        write!(row.tail, " ={}", record).unwrap();
+        return;
+    }
+    let mut book = true;
+    write!(head, "0 ").unwrap();
+    match record {
+        Record::A(a) => {
+            let letter = a.manufacturer.to_single_char().map_or('-', char::from);
+            let triple = a.manufacturer.to_triple_char().unwrap_or("-");
+            write!(head, "{} {} {} {}", letter, triple, part(a.unique_id), maybe(&a.id_extension))
+        }
+        Record::B(b) => {
+            book = time_book(&b.timestamp) && position_book(&b.pos);
+            let valid = match b.fix_valid {
+                FixValid::Valid => 'A',
+                FixValid::NavWarning => 'V',
+            };
+            let rest = part(b.extension_string());
+            write!(head, "{} {} {} {} {} {}", time(&b.timestamp), position(&b.pos), valid, b.pressure_alt, b.gps_alt, rest)
+        }
+        Record::CDeclaration(c) => {
+            book = date_book(&c.date) && time_book(&c.time) && c.flight_date.as_ref().map_or(true, date_book);
+            let flight = c.flight_date.as_ref().map_or("-".to_string(), date);
+            let name = maybe(&c.task_name);
+            write!(head, "{} {} {} {} {} {}", date(&c.date), time(&c.time), flight, c.task_id, c.turnpoint_count, name)
+        }
+        Record::CTurnpoint(c) => {
+            book = position_book(&c.position);
+            write!(head, "{} {}", position(&c.position), maybe(&c.turnpoint_name))
+        }
+        Record::H(h) => {
+            let source = match h.data_source {
+                DataSource::FVU => b'F',
+                DataSource::OfficialObserver => b'O',
+                DataSource::Pilot => b'P',
+                DataSource::Unrecognized(byte) => byte,
+            };
+            write!(head, "{} {} {} {}", source as char, part(h.mnemonic), maybe(&h.friendly_name), part(h.data))
+        }
+        Record::I(i) => definitions(i.0.num_extensions, &i.0.extensions, head),
+        Record::J(j) => definitions(j.0.num_extensions, &j.0.extensions, head),
+        _ => write!(head, "glue:kind"),
+    }
+    .unwrap();
+    write!(row.tail, " {} ={}", if book { 'y' } else { 'n' }, record).unwrap();
+}
+
+fn definitions(count: u8, definitions: &[Extension], head: &mut Vec<u8>) -> std::io::Result<()> {
+    write!(head, "{}", count)?;
+    for d in definitions {
+        write!(head, " {}-{}{}", d.start_byte, d.end_byte, d.mnemonic)?;
+    }
+    Ok(())
+}
+
+fn time(t: &Time) -> String {
+    format!("{}:{}:{}", t.hours, t.minutes, t.seconds)
+}
+
+fn date(d: &Date) -> String {
+    format!("{}/{}/{}", d.day, d.month, d.year)
+}
+
+fn coord(c: &RawCoord) -> String {
+    let letter = match c.sign {
+        Compass::North => 'N',
+        Compass::South => 'S',
+        Compass::East => 'E',
+        Compass::West => 'W',
+    };
+    format!("{} {} {}", c.degrees, c.minute_thousandths, letter)
+}
+
+fn position(p: &RawPosition) -> String {
+    format!("{} {}", coord(&p.lat.0), coord(&p.lon.0))
+}
+
+fn time_book(t: &Time) -> bool {
+    t.hours <= 23 && t.minutes <= 59 && t.seconds <= 59
+}
+
+fn date_book(d: &Date) -> bool {
+    (1..=31).contains(&d.day) && (1..=12).contains(&d.month)
+}
+
+fn position_book(p: &RawPosition) -> bool {
+    p.lat.0.minute_thousandths < 60000 && p.lon.0.minute_thousandths < 60000
+}
+
+/// With no names asked for, every name of the table in its order.
+fn lookups<'l>(fix: &BRecord, line: &str, table: &Table<'l>, names: &[Name]) -> Vec<Lookup<'l>> {
+    let defined = table.as_deref().unwrap_or(&[]);
+    let name_of = |d: &Extension| -> Name { d.mnemonic.as_bytes().try_into().unwrap() };
+    let look = |name: Name| {
+        let definition = defined.iter().find(|d| name_of(d) == name).cloned();
+        let answer = definition.as_ref().map_or(b"8".to_vec(), |d| value(fix, line, d));
+        Lookup { name, definition, answer }
+    };
+    if names.is_empty() {
+        defined.iter().map(name_of).map(look).collect()
+    } else {
+        names.iter().copied().map(look).collect()
+    }
+}
+
+fn value(fix: &BRecord, line: &str, definition: &Extension) -> Vec<u8> {
+    match catch_unwind(|| fix.get_extension(definition)) {
+        Ok(Ok(value)) => format!("0@{}+{}", value.as_ptr() as usize - line.as_ptr() as usize, value.len()).into_bytes(),
+        Ok(Err(error)) => refusal(&error, line).as_bytes().to_vec(),
+        Err(_) => b"panic".to_vec(),
+    }
+}
+
+/// The same lookup by the build whose arithmetic wraps; only what it refuses by is told.
+pub fn wrapped(line: &str, d: &Extension) -> &'static str {
+    use numbers::records::{Extendable, Extension, Record};
+    let fix = match Record::parse_line(line) {
+        Ok(Record::B(fix)) => fix,
+        _ => return "glue:wrapped",
+    };
+    let d = Extension { start_byte: d.start_byte, end_byte: d.end_byte, mnemonic: d.mnemonic };
+    match catch_unwind(|| fix.get_extension(&d).map(str::len)) {
+        Ok(Ok(_)) => "0",
+        Ok(Err(numbers::util::ParseError::BadExtension)) => "5",
+        Ok(Err(numbers::util::ParseError::MissingExtension)) => "6",
+        Ok(Err(_)) => "glue:wrapped",
+        Err(_) => "panic",
+    }
+}
