@@ -1,17 +1,55 @@
 -- ASCII: every byte of it, and parts of an ASCII text.
-use Prim.Native.Nat.{ℕ, zero, suc, _-_}
-use mathlib.Core.Path.{_≡_, refl}
+use Prim.Native.Nat.{ℕ, zero, suc, _+_, _-_, _≤_, _<_}
+use mathlib.Core.Path.{_≡_, refl, sym, ap, _∙_}
 use mathlib.Core.List.{List, [], _∷_}
-use mathlib.Core.Bool.{true}
-use lib.ListN.{take, drop}
-use Rattle.text.specs.Res.{Res, _≤?_}
-use Rattle.text.proofs.Steps.{and, both, pass}
+use mathlib.Core.Bool.{Bool, true, false}
+use native.Mathlib.Omega.{arith}
+use lib.Dec.{leb}
+use lib.ListN.{length, take, drop, getD}
+use lib.Seq.{drop-length}
+use Rattle.text.specs.Res.{Res, pick, _≤?_, _∧?_}
+use Rattle.text.proofs.Steps.{yes≤, no≤, is≤, isnt≤, tested, fails, holds, and, both, pass}
 use Rattle.field.specs.Field.{isAscii, cut, asciiIn, ascii}
-use Rattle.field.proofs.Every.{Every}
+use Rattle.field.proofs.Every.{Every, all-at}
 
 pub every-ascii : Every (λ b. b ≤? 127) isAscii
 unfolding isAscii
 every-ascii = record { none = refl; more = λ b s. refl }
+
+-- ---- by the largest byte
+
+-- the larger of two bytes is low where both are
+pub larger-second : (a b : ℕ) → a < b → (b ≤? 127) ≡ ((a ≤? 127) ∧? (b ≤? 127))
+larger-second a b h = go (a ≤? 127) refl
+  where
+    go : (t : Bool) → (a ≤? 127) ≡ t → (b ≤? 127) ≡ ((a ≤? 127) ∧? (b ≤? 127))
+    go true e = sym (holds e refl)
+    go false e = no≤ (omega (arith, isnt≤ e)) ∙ sym (fails _ e)
+
+pub larger-first : (a b : ℕ) → b ≤ a → (a ≤? 127) ≡ ((a ≤? 127) ∧? (b ≤? 127))
+larger-first a b h = go (a ≤? 127) refl
+  where
+    go : (t : Bool) → (a ≤? 127) ≡ t → (a ≤? 127) ≡ ((a ≤? 127) ∧? (b ≤? 127))
+    go true e = e ∙ sym (and e (yes≤ (omega (arith, is≤ e))))
+    go false e = e ∙ sym (fails _ e)
+
+∧?-assoc : (a b c : Bool) → ((a ∧? b) ∧? c) ≡ (a ∧? (b ∧? c))
+unfolding _∧?_ pick
+∧?-assoc true b c = refl
+∧?-assoc false b c = refl
+
+∧?-true : (a : Bool) → (a ∧? true) ≡ a
+unfolding _∧?_ pick
+∧?-true true = refl
+∧?-true false = refl
+
+-- m is the largest of i bytes: it and what is left, from here, are the whole
+module _ (s : List ℕ) (i m : ℕ) (inv : ((m ≤? 127) ∧? isAscii (drop i s)) ≡ isAscii s) where
+  pub next-largest : i < length s → (n : ℕ) → (n ≤? 127) ≡ ((m ≤? 127) ∧? (getD s i 0 ≤? 127)) → ((n ≤? 127) ∧? isAscii (drop (i + 1) s)) ≡ isAscii s
+  next-largest inside n e = rw e (∧?-assoc _ _ _ ∙ ap (λ rest. (m ≤? 127) ∧? rest) (sym (all-at every-ascii s i inside)) ∙ inv)
+
+  pub largest-of-all : i ≡ length s → leb m 127 ≡ isAscii s
+  largest-of-all e = sym (tested m 127) ∙ sym (∧?-true _) ∙ (rw (e, drop-length, every-ascii .none) at inv)
 
 -- ---- parts of an ASCII text are ASCII
 

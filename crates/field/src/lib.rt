@@ -1,6 +1,7 @@
 // What every field is read by: tests of all its bytes, and three bytes by value.
 ghost use mathlib.Core.Path.{_≡_};
 ghost use Rattle.text.specs.Number.{isDigit, allDigits};
+ghost use Rattle.text.specs.Res.{_≤?_, _∧?_};
 ghost use Rattle.print.specs.Put.{Wrote};
 ghost use Rattle.field.specs.Field.{isAscii, mnemonicText};
 use print::put::put_byte;
@@ -18,17 +19,27 @@ impl Mnemonic {
     }
 }
 
+// The larger of two bytes: it is ASCII where both are.
+fn larger(a: u8, b: u8) -> u8
+    ensures { λ r. ⌜ (r ≤? 127) ≡ ((a ≤? 127) ∧? (b ≤? 127)) ⌝ }
+{
+    if a < b {
+        return b;
+    }
+    a
+}
+
+// The largest byte tells of all: with no way out of the loop but its end, the compiler takes many bytes a turn.
 pub fn is_ascii(text: &[u8]) -> bool
     ensures { λ r. ⌜ r ≡ isAscii (now (text .entry)) ⌝ }
 {
+    let mut largest = 0;
     let mut i = 0;
     while i < text.len() {
-        if 127 < text[i] {
-            return false;
-        }
+        largest = larger(largest, text[i]);
         i += 1;
     }
-    true
+    largest <= 127
 }
 
 pub fn all_digits(text: &[u8]) -> bool

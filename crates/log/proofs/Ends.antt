@@ -41,17 +41,24 @@ upTo-take (suc n) (b ∷ s) h =
     (λ e. upTo-lf b (take n s) e ∙ sym (upTo-lf b s e))
     (λ e. upTo-other b (take n s) e ∙ ap suc (upTo-take n s (omega (arith, upTo-other b s e))) ∙ sym (upTo-other b s e))
 
--- a turn of the loop that looks for it
-module _ (s : List ℕ) (i : ℕ) where
-  pub at-lf : i < length s → byte i s ≡ 10 → upTo (drop i s) ≡ 0
-  at-lf h e = rw (drop-cons s i 0 h) (upTo-lf _ _ (yes= e))
+-- a loop that looks for it: from i on it stands at e
+module _ (s : List ℕ) (i : ℕ) {e : ℕ} where
+  pub found : i < length s → byte i s ≡ 10 → i + upTo (drop i s) ≡ e → i ≡ e
+  found h b q = omega (arith, q, at-lf)
+    where
+      at-lf : upTo (drop i s) ≡ 0
+      at-lf = rw (drop-cons s i 0 h) (upTo-lf _ _ (yes= b))
 
-  pub at-other : i < length s → (byte i s ≡ 10 → ⊥) → upTo (drop i s) ≡ suc (upTo (drop (i + 1) s))
-  at-other h e = rw (drop-cons s i 0 h, add-one) (upTo-other _ _ (no= e))
+  -- j is the place after i
+  pub past : (j : ℕ) → j ≡ i + 1 → i < length s → (byte i s ≡ 10 → ⊥) → i + upTo (drop i s) ≡ e → j + upTo (drop j s) ≡ e
+  past j p h b q = rw p (omega (arith, q, at-other))
+    where
+      at-other : upTo (drop i s) ≡ suc (upTo (drop (i + 1) s))
+      at-other = rw (drop-cons s i 0 h, add-one) (upTo-other _ _ (no= b))
 
-  pub at-end : length s ≤ i → upTo (drop i s) ≡ 0
+  pub none : length s ≤ i → i + upTo (drop i s) ≡ e → i ≡ e
   unfolding upTo
-  at-end h = rw (drop-of-length-le s h)
+  none h q = omega (arith, rw (drop-of-length-le s h) at q)
 
 -- ---- the end of the text
 

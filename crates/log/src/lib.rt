@@ -12,8 +12,8 @@ pub struct Cut {
     pub next: usize,
 }
 
-// The place of the first LF from `at` on, or the log's end.
-fn lf_from(log: &[u8], at: usize) -> usize
+// The place of the first LF from `at` on, or the log's end: byte by byte.
+fn lf_tail(log: &[u8], at: usize) -> usize
     ensures { λ r. ⌜ r ≡ at + upTo (drop at (now (log .entry))) ⌝ }
 {
     let mut i = at;
@@ -24,6 +24,44 @@ fn lf_from(log: &[u8], at: usize) -> usize
         i += 1;
     }
     i
+}
+
+// The same, faster: one test of what is left covers eight bytes. Past the log's end nothing is left, and it cannot be counted.
+fn lf_from(log: &[u8], at: usize) -> usize
+    ensures { λ r. ⌜ r ≡ at + upTo (drop at (now (log .entry))) ⌝ }
+{
+    if log.len() < at {
+        return at;
+    }
+    let mut from = at;
+    while 8 <= log.len() - from {
+        if log[from] == b'\n' {
+            return from;
+        }
+        if log[from + 1] == b'\n' {
+            return from + 1;
+        }
+        if log[from + 2] == b'\n' {
+            return from + 2;
+        }
+        if log[from + 3] == b'\n' {
+            return from + 3;
+        }
+        if log[from + 4] == b'\n' {
+            return from + 4;
+        }
+        if log[from + 5] == b'\n' {
+            return from + 5;
+        }
+        if log[from + 6] == b'\n' {
+            return from + 6;
+        }
+        if log[from + 7] == b'\n' {
+            return from + 7;
+        }
+        from += 8;
+    }
+    lf_tail(log, from)
 }
 
 // Where the text of a line ends whose first LF is at `lf`: a CR directly before that LF is dropped, and only there.
