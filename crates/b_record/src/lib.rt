@@ -1,12 +1,18 @@
 // B lines, as src/records/b_record.rs has them.
+mod quick;
+
 ghost use mathlib.Core.Path.{_≡_};
+ghost use mathlib.Core.Bool.{true};
 ghost use Prim.Native.Nat.{_≤_};
 ghost use lib.ListN.{length};
 ghost use Rattle.part.specs.Part.{findPart, partBytes, shown, Shows, foundRes};
 ghost use Rattle.extension.specs.Value.{findValue};
+ghost use Rattle.field.specs.Field.{isAscii};
 ghost use Rattle.print.specs.Put.{Wrote};
 ghost use Rattle.print.specs.Print.{Prints};
 ghost use Rattle.b_record.specs.BRecord.{fixLetter, fixOf, readHeights, readFix, readB, fixText, bBody, bText, bBook, fixRes, heightsRes, bRes};
+use crate::quick::Quick;
+use crate::quick::quick_fix;
 use coord::position::PositionRead;
 use coord::position::RawPosition;
 use datetime::Time;
@@ -114,6 +120,17 @@ impl BRecord {
         if !is_ascii(line) {
             return BRead::Refused(Refusal::NotAscii);
         }
+        match quick_fix(line) {
+            Quick::Fix(fix) => BRead::Ok(fix),
+            Quick::No => BRecord::parse_ascii(line),
+        }
+    }
+
+    // The fields of a line that the caller knows to be ASCII.
+    fn parse_ascii(line: &[u8]) -> BRead
+        requires { ⌜ (35 ≤ length (now line)) × (isAscii (now line) ≡ true) ⌝ }
+        ensures { λ r. ⌜ bRes r ≡ readFix (now (line .entry)) ⌝ }
+    {
         let timestamp = match Time::parse_ascii(&line[1..7]) {
             TimeRead::Ok(time) => time,
             TimeRead::Refused(no_time) => return BRead::Refused(no_time),

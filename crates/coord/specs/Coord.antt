@@ -41,13 +41,16 @@ coordOf limit g t sign =
     guard ((g ≤? limit) ∧? (t ≤? 60000)) OutOfRange
     (ok (record { degrees = g; «minute_thousandths» = t; sign = sign }))
 
--- d characters of degrees, five of thousandths, a letter, and only then the range.
+-- The letter of x or of y, and only then the range.
+unfoldable pub lettered : ℕ → Compass → Compass → ℕ → ℕ → ℕ → Res RawCoord
+lettered limit x y g t l = bind (signOf x y l) (λ sign. coordOf limit g t sign)
+
+-- d characters of degrees, five of thousandths, a letter.
 unfoldable pub readCoord : ℕ → ℕ → Compass → Compass → List ℕ → Res RawCoord
 readCoord d limit x y s =
     bind (columns 0 d (readNat 255) s) (λ g.
     bind (columns d (d + 5) (readNat 65535) s) (λ t.
-    bind (signOf x y (byte (d + 5) s)) (λ sign.
-    coordOf limit g t sign)))
+    lettered limit x y g t (byte (d + 5) s)))
 
 -- Degrees at most the limit, thousandths below 60000, the letter of x or of y; 4 else.
 unfoldable pub newCoord : ℕ → Compass → Compass → ℕ → ℕ → Compass → Res RawCoord
@@ -85,6 +88,13 @@ latitudeIn s = latitude (sized 8 (readCoord 2 90 North South) s)
 
 unfoldable pub longitudeIn : List ℕ → Res RawLongitude
 longitudeIn s = longitude (sized 9 (readCoord 3 180 East West) s)
+
+-- The same of the two numbers and the letter.
+unfoldable pub latitudeBy : ℕ → ℕ → ℕ → Res RawLatitude
+latitudeBy g t l = latitude (lettered 90 North South g t l)
+
+unfoldable pub longitudeBy : ℕ → ℕ → ℕ → Res RawLongitude
+longitudeBy g t l = longitude (lettered 180 East West g t l)
 
 unfoldable pub newLatitude : ℕ → ℕ → Compass → Res RawLatitude
 newLatitude g t sign = latitude (newCoord 90 North South g t sign)

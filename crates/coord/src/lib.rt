@@ -1,16 +1,14 @@
 // Coordinates, as src/util/coord.rs has them.
 pub mod degrees;
+pub mod latlon;
 pub mod position;
 
 ghost use mathlib.Core.Path.{_≡_};
 ghost use Prim.Native.Nat.{_+_, _≤_};
-ghost use Rattle.text.specs.Res.{ok, _=?_, _∨?_};
+ghost use Rattle.text.specs.Res.{_=?_, _∨?_};
 ghost use Rattle.field.specs.Field.{sized};
 ghost use Rattle.print.specs.Put.{Wrote};
-ghost use Rattle.print.specs.Print.{Prints};
-ghost use Rattle.coord.specs.Coord.{letterOf, signOf, coordOf, readCoord, newCoord, coordText, coordBook, readLatitude, readLongitude, latitudeIn, longitudeIn, newLatitude, newLongitude, latitudeText, longitudeText, compassRes, coordRes, latitudeRes, longitudeRes};
-use field::is_ascii;
-use print::printed::Printed;
+ghost use Rattle.coord.specs.Coord.{letterOf, signOf, coordOf, lettered, readCoord, newCoord, coordText, coordBook, compassRes, coordRes};
 use print::put::put_byte;
 use print::put::put_nat;
 use text::number::U8Read;
@@ -111,6 +109,23 @@ impl RawCoord {
         CoordRead::Refused(Refusal::OutOfRange)
     }
 
+    // The same with the direction by its letter, which is looked at first.
+    fn lettered(
+        limit: u8,
+        x: Compass,
+        y: Compass,
+        degrees: u8,
+        thousandths: u16,
+        letter: u8,
+    ) -> CoordRead
+        ensures { λ r. ⌜ coordRes r ≡ lettered limit x y degrees thousandths letter ⌝ }
+    {
+        match sign_of(letter, x, y) {
+            CompassRead::Ok(sign) => RawCoord::within(limit, degrees, thousandths, sign),
+            CompassRead::Refused(no_sign) => CoordRead::Refused(no_sign),
+        }
+    }
+
     // A coordinate as construction takes it: below 60000 thousandths, and of the two directions x and y.
     fn new(
         limit: u8,
@@ -153,10 +168,7 @@ impl RawCoord {
             U16Read::Ok(small) => small,
             U16Read::Refused(no_thousandths) => return CoordRead::Refused(no_thousandths),
         };
-        match sign_of(text[e], x, y) {
-            CompassRead::Ok(sign) => RawCoord::within(limit, degrees, thousandths, sign),
-            CompassRead::Refused(no_sign) => CoordRead::Refused(no_sign),
-        }
+        RawCoord::lettered(limit, x, y, degrees, thousandths, text[e])
     }
 
     pub fn by_the_book(self) -> bool
@@ -173,113 +185,5 @@ impl RawCoord {
         let minutes = put_nat(buf, at, self.degrees as u64, d);
         let letter = put_nat(buf, minutes, self.minute_thousandths as u64, 5);
         put_byte(buf, letter, sign.letter())
-    }
-}
-
-impl RawLatitude {
-    pub fn new(degrees: u8, thousandths: u16, sign: Compass) -> LatitudeRead
-        ensures { λ r. ⌜ latitudeRes r ≡ newLatitude degrees thousandths sign ⌝ }
-    {
-        match RawCoord::new(
-            90,
-            Compass::North,
-            Compass::South,
-            degrees,
-            thousandths,
-            sign,
-        ) {
-            CoordRead::Ok(coord) => LatitudeRead::Ok(RawLatitude(coord)),
-            CoordRead::Refused(no) => LatitudeRead::Refused(no),
-        }
-    }
-
-    pub fn parse_ascii(text: &[u8]) -> LatitudeRead
-        ensures { λ r. ⌜ latitudeRes r ≡ latitudeIn (now (text .entry)) ⌝ }
-    {
-        match RawCoord::parse_ascii(text, 2, 90, Compass::North, Compass::South) {
-            CoordRead::Ok(coord) => LatitudeRead::Ok(RawLatitude(coord)),
-            CoordRead::Refused(no) => LatitudeRead::Refused(no),
-        }
-    }
-
-    pub fn parse(text: &[u8]) -> LatitudeRead
-        ensures { λ r. ⌜ latitudeRes r ≡ readLatitude (now (text .entry)) ⌝ }
-    {
-        if text.len() != 8 {
-            return LatitudeRead::Refused(Refusal::WrongLength);
-        }
-        if !is_ascii(text) {
-            return LatitudeRead::Refused(Refusal::NotAscii);
-        }
-        RawLatitude::parse_ascii(text)
-    }
-
-    pub fn put(self, buf: &mut [u8], at: usize) -> usize
-        ensures { λ r. ⌜ Wrote (now (buf .entry)) at (latitudeText self) (now (buf .exit)) r ⌝ }
-    {
-        self.0.put(2, buf, at)
-    }
-
-    pub fn print(self, buf: &mut [u8]) -> Printed
-        ensures { λ r. ⌜ Prints (ok (latitudeText self)) (now (buf .entry)) (now (buf .exit)) r ⌝ }
-    {
-        if buf.len() < self.put(&mut [], 0) {
-            return Printed::Refused(Refusal::NoRoom);
-        }
-        Printed::Written(self.put(buf, 0))
-    }
-}
-
-impl RawLongitude {
-    pub fn new(degrees: u8, thousandths: u16, sign: Compass) -> LongitudeRead
-        ensures { λ r. ⌜ longitudeRes r ≡ newLongitude degrees thousandths sign ⌝ }
-    {
-        match RawCoord::new(
-            180,
-            Compass::East,
-            Compass::West,
-            degrees,
-            thousandths,
-            sign,
-        ) {
-            CoordRead::Ok(coord) => LongitudeRead::Ok(RawLongitude(coord)),
-            CoordRead::Refused(no) => LongitudeRead::Refused(no),
-        }
-    }
-
-    pub fn parse_ascii(text: &[u8]) -> LongitudeRead
-        ensures { λ r. ⌜ longitudeRes r ≡ longitudeIn (now (text .entry)) ⌝ }
-    {
-        match RawCoord::parse_ascii(text, 3, 180, Compass::East, Compass::West) {
-            CoordRead::Ok(coord) => LongitudeRead::Ok(RawLongitude(coord)),
-            CoordRead::Refused(no) => LongitudeRead::Refused(no),
-        }
-    }
-
-    pub fn parse(text: &[u8]) -> LongitudeRead
-        ensures { λ r. ⌜ longitudeRes r ≡ readLongitude (now (text .entry)) ⌝ }
-    {
-        if text.len() != 9 {
-            return LongitudeRead::Refused(Refusal::WrongLength);
-        }
-        if !is_ascii(text) {
-            return LongitudeRead::Refused(Refusal::NotAscii);
-        }
-        RawLongitude::parse_ascii(text)
-    }
-
-    pub fn put(self, buf: &mut [u8], at: usize) -> usize
-        ensures { λ r. ⌜ Wrote (now (buf .entry)) at (longitudeText self) (now (buf .exit)) r ⌝ }
-    {
-        self.0.put(3, buf, at)
-    }
-
-    pub fn print(self, buf: &mut [u8]) -> Printed
-        ensures { λ r. ⌜ Prints (ok (longitudeText self)) (now (buf .entry)) (now (buf .exit)) r ⌝ }
-    {
-        if buf.len() < self.put(&mut [], 0) {
-            return Printed::Refused(Refusal::NoRoom);
-        }
-        Printed::Written(self.put(buf, 0))
     }
 }

@@ -6,7 +6,7 @@ ghost use Rattle.print.specs.Put.{Wrote};
 ghost use Rattle.print.specs.Print.{Prints};
 ghost use Rattle.datetime.specs.Three.{readThree, threeText, threeRes, together};
 ghost use Rattle.datetime.specs.Time.{timeOf, readTime, timeIn, timeText, secondsOf, timeBook, timeRes};
-ghost use Rattle.datetime.specs.Date.{dateOf, readDate, dateIn, newDate, dated, dateText, dateBook, dateRes};
+ghost use Rattle.datetime.specs.Date.{dateOf, readDate, dateIn, newDate, dateText, dateBook, dateRes};
 use field::is_ascii;
 use print::printed::Printed;
 use print::put::put_nat;

@@ -1,55 +1,59 @@
--- ASCII: every byte of it, and parts of an ASCII text.
-use Prim.Native.Nat.{ℕ, zero, suc, _+_, _-_, _≤_, _<_}
-use mathlib.Core.Path.{_≡_, refl, sym, ap, _∙_}
+-- ASCII: every byte of it, eight bytes at once, and parts of an ASCII text.
+use Prim.Native.Nat.{ℕ, zero, suc, _+_, _-_, _*_, _/_, _%_, _≤_, _<_}
+use mathlib.Core.Path.{_≡_, refl, sym, _∙_}
 use mathlib.Core.List.{List, [], _∷_}
 use mathlib.Core.Bool.{Bool, true, false}
 use native.Mathlib.Omega.{arith}
-use lib.Dec.{leb}
+use lib.Bits.{bitAnd, and-block, and-high}
+use lib.Dec.{eqb}
 use lib.ListN.{length, take, drop, getD}
-use lib.Seq.{drop-length}
+use borrow.Author.Tests.{eq-eqb, ne-eqb}
 use Rattle.text.specs.Res.{Res, pick, _≤?_, _∧?_}
-use Rattle.text.proofs.Steps.{yes≤, no≤, is≤, isnt≤, tested, fails, holds, and, both, pass}
+use Rattle.text.proofs.Steps.{is≤, isnt≤, fails, holds, and, both, pass}
 use Rattle.field.specs.Field.{isAscii, cut, asciiIn, ascii}
-use Rattle.field.proofs.Every.{Every, all-at}
+use Rattle.field.proofs.Every.{Every, ∧?-assoc, all-at}
 
 pub every-ascii : Every (λ b. b ≤? 127) isAscii
 unfolding isAscii
 every-ascii = record { none = refl; more = λ b s. refl }
 
--- ---- by the largest byte
+-- ---- eight bytes a turn
 
--- the larger of two bytes is low where both are
-pub larger-second : (a b : ℕ) → a < b → (b ≤? 127) ≡ ((a ≤? 127) ∧? (b ≤? 127))
-larger-second a b h = go (a ≤? 127) refl
+-- the high bits of n bytes
+abbrev high-bits : ℕ → ℕ
+high-bits zero = 0
+high-bits (suc n) = high-bits n * 256 + 128
+
+-- a number that has none of them exactly where the bytes s, the lowest first, are ASCII
+pub record Word (w : ℕ) (s : List ℕ) : Type 0 where
+  pub masked : eqb (bitAnd w (high-bits (length s))) 0 ≡ isAscii s
+
+pub byte-below : {w high b : ℕ} {s : List ℕ} → w ≡ high * 256 + b → b < 256 → Word high s → Word w (b ∷ s)
+byte-below {high} {b} {s} e l h =
+    record { masked = rw (e, and-block 8 high (high-bits (length s)) b 128 l (omega arith), every-ascii .more b s, ← (h .masked)) (by (b ≤? 127) refl (bitAnd high (high-bits (length s)))) }
   where
-    go : (t : Bool) → (a ≤? 127) ≡ t → (b ≤? 127) ≡ ((a ≤? 127) ∧? (b ≤? 127))
-    go true e = sym (holds e refl)
-    go false e = no≤ (omega (arith, isnt≤ e)) ∙ sym (fails _ e)
+    bit : bitAnd b 128 ≡ b / 128 % 2 * 128
+    bit = and-high b 1 7
 
-pub larger-first : (a b : ℕ) → b ≤ a → (a ≤? 127) ≡ ((a ≤? 127) ∧? (b ≤? 127))
-larger-first a b h = go (a ≤? 127) refl
+    by : (t : Bool) → (b ≤? 127) ≡ t → (x : ℕ) → eqb (x * 256 + bitAnd b 128) 0 ≡ ((b ≤? 127) ∧? eqb x 0)
+    by true t zero = let k : b ≤ 127 = is≤ t in eq-eqb (0 * 256 + bitAnd b 128) 0 (omega (arith, bit)) ∙ sym (holds t refl)
+    by true t (suc x) = ne-eqb (suc x * 256 + bitAnd b 128) 0 (λ z. omega arith) ∙ sym (holds t (ne-eqb (suc x) 0 (λ z. omega arith)))
+    by false t x = let k : 127 < b = isnt≤ t in let q : b / 128 ≡ 1 = omega arith in ne-eqb (x * 256 + bitAnd b 128) 0 (λ z. omega (arith, rw q at bit)) ∙ sym (fails _ t)
+
+pub one-byte : {b : ℕ} → b < 256 → Word b (b ∷ [])
+one-byte l = byte-below {high = 0} (omega arith) l (record { masked = sym (every-ascii .none) })
+
+-- a turn over the bytes at i: they and what is left after them are the whole
+pub eight : (s : List ℕ) (i : ℕ) {low t : Bool} → i + 8 ≤ length s → isAscii (drop i s) ≡ t →
+    low ≡ isAscii (getD s i 0 ∷ getD s (i + 1) 0 ∷ getD s (i + 2) 0 ∷ getD s (i + 3) 0 ∷ getD s (i + 4) 0 ∷ getD s (i + 5) 0 ∷ getD s (i + 6) 0 ∷ getD s (i + 7) 0 ∷ []) →
+    (low ∧? isAscii (drop (i + 8) s)) ≡ t
+unfolding isAscii _∧?_ pick
+eight s i h inv e =
+    simp (e, ∧?-assoc)
+    (sym (all-at every-ascii s i (i + 1) refl (omega arith) (at 1 (omega arith) (at 2 (omega arith) (at 3 (omega arith) (at 4 (omega arith) (at 5 (omega arith) (at 6 (omega arith) (at 7 (omega arith) refl)))))))) ∙ inv)
   where
-    go : (t : Bool) → (a ≤? 127) ≡ t → (a ≤? 127) ≡ ((a ≤? 127) ∧? (b ≤? 127))
-    go true e = e ∙ sym (and e (yes≤ (omega (arith, is≤ e))))
-    go false e = e ∙ sym (fails _ e)
-
-∧?-assoc : (a b c : Bool) → ((a ∧? b) ∧? c) ≡ (a ∧? (b ∧? c))
-unfolding _∧?_ pick
-∧?-assoc true b c = refl
-∧?-assoc false b c = refl
-
-∧?-true : (a : Bool) → (a ∧? true) ≡ a
-unfolding _∧?_ pick
-∧?-true true = refl
-∧?-true false = refl
-
--- m is the largest of i bytes: it and what is left, from here, are the whole
-module _ (s : List ℕ) (i m : ℕ) (inv : ((m ≤? 127) ∧? isAscii (drop i s)) ≡ isAscii s) where
-  pub next-largest : i < length s → (n : ℕ) → (n ≤? 127) ≡ ((m ≤? 127) ∧? (getD s i 0 ≤? 127)) → ((n ≤? 127) ∧? isAscii (drop (i + 1) s)) ≡ isAscii s
-  next-largest inside n e = rw e (∧?-assoc _ _ _ ∙ ap (λ rest. (m ≤? 127) ∧? rest) (sym (all-at every-ascii s i inside)) ∙ inv)
-
-  pub largest-of-all : i ≡ length s → leb m 127 ≡ isAscii s
-  largest-of-all e = sym (tested m 127) ∙ sym (∧?-true _) ∙ (rw (e, drop-length, every-ascii .none) at inv)
+    at : (k : ℕ) {rest : Bool} → k < 8 → isAscii (drop (i + (k + 1)) s) ≡ rest → isAscii (drop (i + k) s) ≡ ((getD s (i + k) 0 ≤? 127) ∧? rest)
+    at k l q = all-at every-ascii s (i + k) (i + (k + 1)) (omega arith) (omega arith) q
 
 -- ---- parts of an ASCII text are ASCII
 

@@ -1,12 +1,25 @@
 -- A test that every byte of a text passes: one law for the loops over bytes.
-use Prim.Native.Nat.{ℕ, suc, _+_, _<_}
-use mathlib.Core.Path.{_≡_, sym, _∙_}
+use Prim.Native.Nat.{ℕ, suc, _+_, _≤_, _<_}
+use mathlib.Core.Path.{_≡_, refl, sym, ap, _∙_}
 use mathlib.Core.List.{List, [], _∷_}
 use mathlib.Core.Bool.{Bool, true, false}
 use native.Mathlib.Numerals.{add-one}
-use lib.ListN.{length, drop, getD}
-use lib.Seq.{drop-cons, drop-length}
+use lib.ListN.{length, drop, getD, drop-of-length-le}
+use lib.Seq.{drop-cons}
 use Rattle.text.specs.Res.{pick, _∧?_}
+use Rattle.text.proofs.Steps.{holds}
+
+pub ∧?-assoc : (a b c : Bool) → ((a ∧? b) ∧? c) ≡ (a ∧? (b ∧? c))
+unfolding _∧?_ pick
+∧?-assoc true b c = refl
+∧?-assoc false b c = refl
+
+∧?-comm : (a b : Bool) → (a ∧? b) ≡ (b ∧? a)
+unfolding _∧?_ pick
+∧?-comm true true = refl
+∧?-comm true false = refl
+∧?-comm false true = refl
+∧?-comm false false = refl
 
 -- `all` holds of a text whose bytes all pass the test
 pub record Every (test : ℕ → Bool) (all : List ℕ → Bool) : Type 0 where
@@ -14,22 +27,26 @@ pub record Every (test : ℕ → Bool) (all : List ℕ → Bool) : Type 0 where
   pub more : (b : ℕ) (s : List ℕ) → all (b ∷ s) ≡ (test b ∧? all s)
 
 module _ {test : ℕ → Bool} {all : List ℕ → Bool} (every : Every test all) (s : List ℕ) (i : ℕ) where
-  -- the byte at i, and those after it
-  pub all-at : i < length s → all (drop i s) ≡ (test (getD s i 0) ∧? all (drop (i + 1) s))
-  all-at inside = rw (drop-cons s i 0 inside, add-one) (every .more (getD s i 0) (drop (suc i) s))
+  -- the byte at i, and those after it, from j on
+  pub all-at : (j : ℕ) {rest : Bool} → j ≡ i + 1 → i < length s → all (drop j s) ≡ rest → all (drop i s) ≡ (test (getD s i 0) ∧? rest)
+  all-at j e inside q = rw (drop-cons s i 0 inside, ← q, e, add-one) (every .more (getD s i 0) (drop (suc i) s))
 
-  -- a turn: i bytes have passed, and what is left, from here, is the whole
-  module _ (inside : i < length s) (inv : all (drop i s) ≡ all s) where
-    here : (test (getD s i 0) ∧? all (drop (i + 1) s)) ≡ all s
-    here = sym (all-at inside) ∙ inv
+  -- a turn of a loop with no way out: what is seen of the bytes before i and what is left, from here, are the whole
+  pub next-seen : (seen : Bool) {now t : Bool} → i < length s → (seen ∧? all (drop i s)) ≡ t → now ≡ (test (getD s i 0) ∧? seen) → (now ∧? all (drop (i + 1) s)) ≡ t
+  next-seen seen inside inv e = rw (e, ∧?-comm (test (getD s i 0)) seen) (∧?-assoc _ _ _ ∙ ap (λ left. seen ∧? left) (sym (all-at (i + 1) refl inside refl)) ∙ inv)
 
-    pub over : test (getD s i 0) ≡ false → false ≡ all s
+  pub all-seen : {seen t : Bool} → length s ≤ i → (seen ∧? all (drop i s)) ≡ t → seen ≡ t
+  all-seen {seen} past inv = sym (∧?-comm seen true ∙ holds refl refl) ∙ (rw (drop-of-length-le s past, every .none) at inv)
+
+  -- a turn of a loop that is left at the first byte that fails: what is left, from here, is the whole
+  module _ {t : Bool} (inside : i < length s) (inv : all (drop i s) ≡ t) where
+    pub over : test (getD s i 0) ≡ false → false ≡ t
     unfolding _∧?_ pick
-    over h = rw h at here
+    over h = next-seen true {now = false} inside inv (rw h)
 
-    pub next : test (getD s i 0) ≡ true → all (drop (i + 1) s) ≡ all s
+    pub next : test (getD s i 0) ≡ true → all (drop (i + 1) s) ≡ t
     unfolding _∧?_ pick
-    next h = rw h at here
+    next h = next-seen true {now = true} inside inv (rw h)
 
-  pub done : i ≡ length s → all (drop i s) ≡ all s → true ≡ all s
-  done e inv = sym (every .none) ∙ (rw (e, drop-length) at inv)
+  pub done : {t : Bool} → length s ≤ i → all (drop i s) ≡ t → true ≡ t
+  done past inv = all-seen past (holds refl inv)

@@ -1,7 +1,9 @@
 // What every field is read by: tests of all its bytes, and three bytes by value.
 ghost use mathlib.Core.Path.{_≡_};
+ghost use mathlib.Core.List.{[], _∷_};
+ghost use Prim.Native.Nat.{_+_, _*_, _<_, _^_};
+ghost use lib.ListN.{drop};
 ghost use Rattle.text.specs.Number.{isDigit, allDigits};
-ghost use Rattle.text.specs.Res.{_≤?_, _∧?_};
 ghost use Rattle.print.specs.Put.{Wrote};
 ghost use Rattle.field.specs.Field.{isAscii, mnemonicText};
 use print::put::put_byte;
@@ -19,40 +21,72 @@ impl Mnemonic {
     }
 }
 
-// The larger of two bytes: it is ASCII where both are.
-fn larger(a: u8, b: u8) -> u8
-    ensures { λ r. ⌜ (r ≤? 127) ≡ ((a ≤? 127) ∧? (b ≤? 127)) ⌝ }
+// A number with one more byte below it.
+fn join(high: u64, low: u8) -> u64
+    requires { ⌜ high < 2 ^ 56 ⌝ }
+    ensures { λ r. ⌜ r ≡ high * 256 + low ⌝ }
 {
-    if a < b {
-        return b;
-    }
-    a
+    high * 256 + low as u64
 }
 
-// The largest byte tells of all: with no way out of the loop but its end, the compiler takes many bytes a turn.
-pub fn is_ascii(text: &[u8]) -> bool
-    ensures { λ r. ⌜ r ≡ isAscii (now (text .entry)) ⌝ }
+// Eight bytes are ASCII: the compiler makes one load and one test of it.
+fn low8(a: u8, b: u8, c: u8, d: u8, e: u8, f: u8, g: u8, h: u8) -> bool
+    ensures { λ r. ⌜ r ≡ isAscii (a ∷ b ∷ c ∷ d ∷ e ∷ f ∷ g ∷ h ∷ []) ⌝ }
 {
-    let mut largest = 0;
-    let mut i = 0;
-    while i < text.len() {
-        largest = larger(largest, text[i]);
-        i += 1;
-    }
-    largest <= 127
+    let low = join(join(join(h as u64, g), f), e);
+    join(join(join(join(low, d), c), b), a) & 0x8080_8080_8080_8080 == 0
 }
 
-pub fn all_digits(text: &[u8]) -> bool
-    ensures { λ r. ⌜ r ≡ allDigits (now (text .entry)) ⌝ }
+// From a place on every byte is ASCII: byte by byte.
+fn ascii_tail(text: &[u8], at: usize) -> bool
+    ensures { λ r. ⌜ r ≡ isAscii (drop at (now (text .entry))) ⌝ }
 {
-    let mut i = 0;
+    let mut i = at;
     while i < text.len() {
-        if !is_digit(text[i]) {
+        if 127 < text[i] {
             return false;
         }
         i += 1;
     }
     true
+}
+
+// Eight bytes a turn.
+pub fn is_ascii(text: &[u8]) -> bool
+    ensures { λ r. ⌜ r ≡ isAscii (now (text .entry)) ⌝ }
+{
+    let mut i = 0;
+    while 8 <= text.len() - i {
+        if !low8(
+            text[i],
+            text[i + 1],
+            text[i + 2],
+            text[i + 3],
+            text[i + 4],
+            text[i + 5],
+            text[i + 6],
+            text[i + 7],
+        ) {
+            return false;
+        }
+        i += 8;
+    }
+    ascii_tail(text, i)
+}
+
+// With no way out of the loop but its end the compiler tests many bytes at once.
+pub fn all_digits(text: &[u8]) -> bool
+    ensures { λ r. ⌜ r ≡ allDigits (now (text .entry)) ⌝ }
+{
+    let mut all = true;
+    let mut i = 0;
+    while i < text.len() {
+        if !is_digit(text[i]) {
+            all = false;
+        }
+        i += 1;
+    }
+    all
 }
 
 fn is_digit(b: u8) -> bool

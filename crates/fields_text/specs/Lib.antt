@@ -1,4 +1,2 @@
-pub mod Piece
-pub mod Value
 pub mod Record
 pub mod Line

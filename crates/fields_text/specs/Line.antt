@@ -7,7 +7,7 @@ use Rattle.records.specs.Record.{readLine, recordBook, acceptedAs}
 use Rattle.records.specs.declared.Record.{Record}
 use Rattle.held.specs.declared.Held.{Held}
 use Rattle.listing_text.specs.Line.{headText}
-use Rattle.fields_text.specs.Piece.{byteShown}
+use Rattle.fields_piece.specs.Piece.{byteShown}
 use Rattle.fields_text.specs.Record.{recordShown}
 
 -- `y` or `n` for by the book; a line answered 11 or 12 has no verdict.

@@ -18,8 +18,8 @@ use Rattle.records.specs.declared.Record.{Record}
 use Rattle.records.specs.declared.Record.the-variants as rec
 use Rattle.held.specs.declared.Held.{Held}
 use Rattle.listing_text.specs.Line.{plain}
-use Rattle.fields_text.specs.Piece.{number, signedNumber, byteShown, partShown, maybeShown, timeShown, dateShown, flightShown, positionShown, letterShown, tripleShown}
-use Rattle.fields_text.specs.Value.{askedFor, valuesShown}
+use Rattle.fields_piece.specs.Piece.{number, signedNumber, byteShown, partShown, maybeShown, timeShown, dateShown, flightShown, positionShown, letterShown, tripleShown}
+use Rattle.fields_value.specs.Value.{askedFor, valuesShown}
 
 -- The letter code and the triple code as the maker gives them, unique id, id extension.
 unfoldable pub aShown : ARecord → List ℕ

@@ -1,5 +1,3 @@
 // What the reader sees in a line, as text: its fields, the values looked up by name, and the record as it prints.
 pub mod line;
-pub mod piece;
 pub mod record;
-pub mod value;

@@ -2,8 +2,8 @@
 ghost use Rattle.print.specs.Put.{Wrote};
 ghost use Rattle.records.specs.Record.{readingRes};
 ghost use Rattle.fields_text.specs.Line.{bookShown, printedShown, seen, fieldsShown, fieldsLine};
-use crate::piece::put_raw;
 use crate::record::put_record;
+use fields_piece::put_raw;
 use held::Held;
 use listing_text::put_head;
 use print::put::put_byte;

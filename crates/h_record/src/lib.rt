@@ -5,7 +5,7 @@ ghost use lib.ListN.{length, drop};
 ghost use Rattle.part.specs.Part.{findPart, findMaybe, partBytes, maybeBytes, shown, Shows};
 ghost use Rattle.print.specs.Put.{Wrote};
 ghost use Rattle.print.specs.Print.{Prints};
-ghost use Rattle.h_record.specs.HRecord.{sourceByte, sourceOf, colonIn, named, readH, charText, nameText, dataText, hBody, hText, hRes};
+ghost use Rattle.h_record.specs.HRecord.{sourceByte, sourceOf, colonIn, readH, charText, nameText, dataText, hBody, hText, hRes};
 use field::is_ascii;
 use part::Found;
 use part::MaybePart;

@@ -11,7 +11,7 @@ use Rattle.text.specs.Line.{byte}
 use Rattle.text.proofs.Steps.{is=}
 use Rattle.text.proofs.Finds.{Finds, finds-ok, finds-no, finds-bind, finds-guard, finds-pick}
 use Rattle.field.specs.Field.{cut}
-use Rattle.coord.specs.Coord.{letterOf, signOf, coordOf, readCoord, coordText, latitude, longitude, latitudeIn, longitudeIn, latitudeText, longitudeText, readBoth, readPosition, positionText}
+use Rattle.coord.specs.Coord.{letterOf, signOf, coordOf, lettered, readCoord, coordText, latitude, longitude, latitudeIn, longitudeIn, latitudeText, longitudeText, readBoth, readPosition, positionText}
 use Rattle.coord.specs.declared.Compass.{Compass}
 use Rattle.coord.specs.declared.Compass.the-variants.{North, South, East, West}
 use Rattle.promises.specs.Odd.{coordPlus, positionPlus}
@@ -32,7 +32,7 @@ unfolding coordOf
 coord-makes d limit g t c = finds-guard _ (λ _. finds-ok refl)
 
 coord-copy : (d limit : ℕ) (x y : Compass) (s : List ℕ) → length s ≡ d + 6 → Finds (readCoord d limit x y s) (λ c. Copy (coordPlus d s) s (coordText d c))
-unfolding readCoord coordPlus coordText
+unfolding lettered readCoord coordPlus coordText
 coord-copy d limit x y s l =
     finds-bind (rw zero-add at (nat-copy 0 d 255 s (omega arith))) (λ g cg.
     finds-bind (nat-copy d 5 65535 s (omega arith)) (λ t ct.

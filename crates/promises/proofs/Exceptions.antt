@@ -14,13 +14,13 @@ use Rattle.table.specs.Table.{tableOf, readDefs, readBody, readTable, defsOf, d
 use Rattle.a_record.specs.ARecord.{aNew, aOf, letterForm, readA, tripleText, aBody, aText}
 use Rattle.b_record.specs.BRecord.{fixLetter, fixOf, readHeights, readFix, readB, fixText, bBody, bText}
 use Rattle.c_record.specs.CRecord.{turns, readFlight, readTask, readDeclaration, flightText, taskText, declarationBody, declarationText, readTurnpoint, turnpointBody, turnpointText}
-use Rattle.records.specs.Record.{kindOf, readC, readKind, readLine, recordText}
+use Rattle.records.specs.Record.{kindOf, readC, readKind, readLine, recordText, reprinted}
 use Rattle.promises.specs.Spelt.{speltFrom, spelt}
-use Rattle.promises.specs.Back.{reprinted, Needed}
+use Rattle.promises.specs.Back.{Needed}
 
 pub needed : Needed
 unfolding
-    bind guard pick _≤?_ _=?_ _∧?_ _∨?_ bytesOf findPart findMaybe textOf partText maybeText restFrom nameFrom isDigit allDigits valueFrom readDigits readNat readInt digits placesIn placesOf padded signed zeros isAscii cut columns sized asciiIn ascii field mnemonicText readThree threeText timeOf readTime timeText dateOf readDate dateText coord.letterOf coord.signOf coord.coordOf coord.readCoord coord.coordText coord.latitude coord.longitude coord.latitudeIn coord.longitudeIn coord.readBoth coord.readPosition coord.positionText maker.letterOf maker.spelt maker.tripleOf maker.known maker.firstOf maker.isLetter maker.letterMaker readDefinition readExtension extensionText tableOf readDefs readBody readTable defsOf defsText tableBody tableText tableRead aNew aOf letterForm readA tripleText aBody aText fixLetter fixOf readHeights readFix readB fixText bBody bText turns readFlight readTask readDeclaration flightText taskText declarationBody declarationText readTurnpoint turnpointBody turnpointText kindOf readC readKind readLine recordText speltFrom spelt reprinted
+    bind guard pick _≤?_ _=?_ _∧?_ _∨?_ bytesOf findPart findMaybe textOf partText maybeText restFrom nameFrom isDigit allDigits valueFrom readDigits readNat readInt digits placesIn placesOf padded signed zeros isAscii cut columns sized asciiIn ascii field mnemonicText readThree threeText timeOf readTime timeText dateOf readDate dateText coord.letterOf coord.signOf coord.coordOf coord.lettered coord.readCoord coord.coordText coord.latitude coord.longitude coord.latitudeIn coord.longitudeIn coord.readBoth coord.readPosition coord.positionText maker.letterOf maker.spelt maker.tripleOf maker.known maker.firstOf maker.isLetter maker.letterMaker readDefinition readExtension extensionText tableOf readDefs readBody readTable defsOf defsText tableBody tableText tableRead aNew aOf letterForm readA tripleText aBody aText fixLetter fixOf readHeights readFix readB fixText bBody bText turns readFlight readTask readDeclaration flightText taskText declarationBody declarationText readTurnpoint turnpointBody turnpointText kindOf readC readKind readLine recordText speltFrom spelt reprinted
 needed = record {
   letter-form = refl;
   time = refl;

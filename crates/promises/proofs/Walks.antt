@@ -6,29 +6,23 @@ use native.Mathlib.Omega.{arith}
 use mathlib.Core.Bool.{Bool, true, false}
 use lib.ListN.{length, take, drop}
 use lib.Seq.{take-all}
-use Rattle.text.specs.Res.{Res, ok, no, pick, _≤?_, _∧?_}
+use Rattle.text.specs.Res.{pick, _≤?_, _∧?_}
 use Rattle.part.specs.Part.{bytesOf}
-use Rattle.text.proofs.Steps.{first, second, yes≤, no≤, is≤, isnt≤, and, fails}
+use Rattle.text.proofs.Steps.{second, no≤, is≤, isnt≤, fails}
 use Rattle.print.specs.Put.{largest}
-use Rattle.records.specs.Record.{readLine, readingRes}
-use Rattle.records.specs.declared.Record.{Record}
+use Rattle.records.specs.Record.{readLine}
 use Rattle.log.specs.Line.{cutAt}
 use Rattle.log.specs.Log.{chunks, readFrom, readings}
 use Rattle.log.proofs.Ends.{either}
 use Rattle.log.proofs.Cuts.{read-past, read-line, next-gt, next-le}
 use Rattle.held.specs.Held.{heldAfter}
 use Rattle.walk.specs.Cursor.{start, past, nextOf}
-use Rattle.walk.specs.Walk.{fresh, readingOf, stepTo, stepOf}
+use Rattle.walk.specs.Walk.{fresh, stepTo, stepOf}
 use Rattle.walk.specs.Readings.{reader, readBy, walked}
 use Rattle.walk.specs.declared.Walk.{Walk}
+use Rattle.walk.proofs.Laws.{viewed, step-on}
 use Rattle.listing_text.specs.Listing.{listed, listingText}
-use Rattle.walk.specs.declared.Taken.the-variants.{Line, Done}
-
--- a reading's view is what was viewed
-viewed : (m : Res Record) → readingRes (readingOf m) ≡ m
-unfolding readingOf
-viewed (ok r) = refl
-viewed (no n) = refl
+use Rattle.walk.specs.declared.Taken.the-variants.{Done}
 
 second-fails : (a : Bool) {b : Bool} → b ≡ false → (a ∧? b) ≡ false
 unfolding _∧?_ pick
@@ -52,10 +46,6 @@ module _ (s : List ℕ) (w : Walk) where
   pub done-full : largest ≤ w .at .number → stepOf s w ≡ record { walk = w; taken = Done }
   unfolding stepOf stepTo nextOf
   done-full h = ap (stepTo s w) (sym (second _ (second-fails _ (no≤ (omega arith))) refl))
-
-  step-on : w .at .place < length s → w .at .number < largest → stepOf s w ≡ record { walk = then; taken = Line (cutAt (w .at .place) s .line) (readingOf (readLine at)) }
-  unfolding stepOf stepTo nextOf
-  step-on h n = ap (stepTo s w) (sym (first _ (and (yes≤ (omega arith)) (yes≤ (omega arith))) refl))
 
 module _ (s : List ℕ) where
   starts : (p : ℕ) → cutAt p s .line .start ≡ p

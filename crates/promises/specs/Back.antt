@@ -4,14 +4,14 @@ use mathlib.Core.Path.{_≡_}
 use mathlib.Core.Bool.{true, false}
 use mathlib.Core.List.{List, _++_}
 use lib.ListN.{length, drop}
-use Rattle.text.specs.Res.{Res, ok, no, bind}
+use Rattle.text.specs.Res.{Res, ok, no}
 use Rattle.text.specs.Line.{byte}
 use Rattle.text.specs.declared.refusal.Refusal.the-variants.{NoRoom}
 use Rattle.print.specs.Print.{printedRes, Prints}
 use Rattle.print.specs.declared.printed.Printed.{Printed}
 use Rattle.table.specs.Table.{readTable, tableRead}
 use Rattle.table.specs.declared.TableRead.{TableRead}
-use Rattle.records.specs.Record.{readLine, recordText, readingRes}
+use Rattle.records.specs.Record.{readLine, recordText, reprinted, readingRes}
 use Rattle.records.specs.declared.Record.{Record}
 use Rattle.records.specs.declared.Reading.the-variants.{Accepted}
 use Rattle.promises.specs.Odd.{lineOdd}
@@ -44,10 +44,6 @@ abbrev pub ComesBack : Type 0
 ComesBack = (s : List ℕ) (r : Record) (t : TableRead) → Parsed s r t → Reprints s (recordText r (t .table) s)
 
 -- ---- each exception is needed: accepted lines and what they print as
-
--- A line read and printed, its own table beside it.
-unfoldable pub reprinted : List ℕ → Res (List ℕ)
-reprinted s = bind (readLine s) (λ r. recordText r (tableRead (readTable s) .table) s)
 
 pub record Needed : Type 0 where
   -- The A line was in letter form.

@@ -1,8 +1,6 @@
 -- The starred readings of document 01, "Readings at the edges", one after the other as one list.
-use Prim.Native.Nat.{ℕ}
 use mathlib.Core.Path.{_≡_}
-use mathlib.Core.List.{List, []}
-use Rattle.text.specs.Res.{Res, ok, no, bind}
+use Rattle.text.specs.Res.{ok, no, bind}
 use Rattle.part.specs.Part.{textOf}
 use Rattle.text.specs.Number.{readInt, signed}
 use Rattle.text.specs.declared.refusal.Refusal.the-variants.{Syntax, UnreadableNumber, OutOfRange, BadExtension}
@@ -11,18 +9,13 @@ use Rattle.datetime.specs.Time.{readTime, secondsOf}
 use Rattle.coord.specs.Coord.{readLatitude}
 use Rattle.coord.specs.declared.Compass.the-variants.{North}
 use Rattle.manufacturer.specs.declared.Manufacturer.the-variants.{UnknownSingle}
-use Rattle.table.specs.Table.{tableOf}
 use Rattle.extension.specs.Value.{findValue}
 use Rattle.c_record.specs.CRecord.{readDeclaration}
 use Rattle.c_record.specs.declared.MaybeDate.the-variants.{Missing, On}
 use Rattle.h_record.specs.declared.DataSource.the-variants.{FVU}
-use Rattle.records.specs.Record.{readLine, recordText}
+use Rattle.records.specs.Record.{readLine, reprinted}
 use Rattle.records.specs.declared.Record.the-variants as rec
 use Rattle.promises.specs.Spelt.{spelt}
-
--- A line read and printed.
-unfoldable pub again : List ℕ → Res (List ℕ)
-again s = bind (readLine s) (λ r. recordText r (tableOf []) s)
 
 pub record Starred : Type 0 where
   -- Empty line: 1. `HFFTY`: 1; `HFFTY:` has an empty name and empty data.
@@ -37,10 +30,10 @@ pub record Starred : Type 0 where
       }))
   -- `AC00069` prints `ACAM00069`. `AX12345` prints `A12345`, which reads as 1. `AX123456` prints `A123456`, which reads as
   -- maker `1`, id 23456.
-  pub line-AC00069 : again (spelt "AC00069") ≡ ok (spelt "ACAM00069")
-  pub line-AX12345 : again (spelt "AX12345") ≡ ok (spelt "A12345")
+  pub line-AC00069 : reprinted (spelt "AC00069") ≡ ok (spelt "ACAM00069")
+  pub line-AX12345 : reprinted (spelt "AX12345") ≡ ok (spelt "A12345")
   pub line-A12345 : readLine (spelt "A12345") ≡ no Syntax
-  pub line-AX123456 : again (spelt "AX123456") ≡ ok (spelt "A123456")
+  pub line-AX123456 : reprinted (spelt "AX123456") ≡ ok (spelt "A123456")
   pub line-A123456 :
       readLine (spelt "A123456")
       ≡ ok (rec.A (record { manufacturer = UnknownSingle 49; «unique_id» = record { start = 2; len = 5 }; «id_extension» = maybe.Missing }))
@@ -54,7 +47,7 @@ pub record Starred : Type 0 where
   pub latitude-9065536N : readLatitude (spelt "9065536N") ≡ no UnreadableNumber
   -- `C230718092044+0+0+0000204` has a flight date, and prints `C230718092044000000000204`, which has none.
   pub flight-of-pluses : bind (readDeclaration (spelt "C230718092044+0+0+0000204")) (λ r. ok (r .«flight_date»)) ≡ ok (On (record { day = 0; month = 0; year = 0 }))
-  pub pluses-printed : again (spelt "C230718092044+0+0+0000204") ≡ ok (spelt "C230718092044000000000204")
+  pub pluses-printed : reprinted (spelt "C230718092044+0+0+0000204") ≡ ok (spelt "C230718092044000000000204")
   pub flight-of-zeros : bind (readDeclaration (spelt "C230718092044000000000204")) (λ r. ok (r .«flight_date»)) ≡ ok Missing
   -- Heights: `-0000` prints `00000`.
   pub height-minus-0000 : bind (readInt 32767 (spelt "-0000")) (λ z. ok (signed 5 z)) ≡ ok (spelt "00000")

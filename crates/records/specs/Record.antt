@@ -8,7 +8,7 @@ use Rattle.text.specs.Line.{byte}
 use Rattle.part.specs.Part.{partText}
 use Rattle.text.specs.declared.refusal.Refusal.the-variants.{Syntax}
 use Rattle.part.specs.declared.Part.{Part}
-use Rattle.table.specs.Table.{readTable, tableText}
+use Rattle.table.specs.Table.{readTable, tableText, tableRead}
 use Rattle.table.specs.declared.Table.{Table}
 use Rattle.a_record.specs.ARecord.{readA, aText}
 use Rattle.b_record.specs.BRecord.{readB, bText, bBook}
@@ -74,6 +74,10 @@ recordText rec.I t s = tableText 73 t
 recordText rec.J t s = tableText 74 t
 recordText (rec.NotTaken p) t s = partText p s
 recordText (rec.Unrecognised p) t s = partText p s
+
+-- A line read and printed, its own table beside it.
+unfoldable pub reprinted : List ℕ → Res (List ℕ)
+reprinted s = bind (readLine s) (λ r. recordText r (tableRead (readTable s) .table) s)
 
 -- By the book: times, dates and positions are; other kinds say yes.
 unfoldable pub recordBook : Record → Bool

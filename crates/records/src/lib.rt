@@ -3,7 +3,7 @@ ghost use mathlib.Core.Path.{_≡_};
 ghost use Rattle.text.specs.Res.{bind, ok};
 ghost use Rattle.print.specs.Print.{Prints};
 ghost use Rattle.table.specs.Table.{readTable};
-ghost use Rattle.records.specs.Record.{kindOf, whole, readC, readLine, recordText, recordBook, acceptedAs, answerOf, readingRes};
+ghost use Rattle.records.specs.Record.{kindOf, readC, readLine, recordText, recordBook, acceptedAs, answerOf, readingRes};
 use a_record::ARead;
 use a_record::ARecord;
 use b_record::BRead;

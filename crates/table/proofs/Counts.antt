@@ -1,20 +1,19 @@
 -- A count of two characters is at most 99.
-use Prim.Native.Nat.{ℕ, _-_, _^_, _≤_, _<_}
+use Prim.Native.Nat.{ℕ, _^_, _≤_, _<_}
 use mathlib.Core.Path.{_≡_, sym}
 use mathlib.Core.List.{List}
 use native.Mathlib.Omega.{arith}
-use native.Mathlib.Nat.{pow-le-pow-right, lt-of-lt-of-le}
 use lib.ListN.{length, drop, length-drop}
 use Rattle.text.specs.Res.{ok}
 use Rattle.text.specs.Number.{readDigits, readNat}
 use Rattle.text.proofs.Finds.{Finds, finds-ok, finds-guard, finds-pick}
-use Rattle.text.proofs.Decimal.{value-bound}
+use Rattle.text.proofs.Decimal.{value-below}
 
 -- a number read from some characters is below that power of ten
 digits-below : (most w : ℕ) (s : List ℕ) → length s ≤ w → Finds (readDigits most s) (λ v. v < 10 ^ w)
 unfolding readDigits
 digits-below most w s l =
-    finds-guard _ (λ _. finds-guard _ (λ ds. finds-guard _ (λ _. finds-ok (lt-of-lt-of-le (value-bound s ds) (pow-le-pow-right (omega arith) l)))))
+    finds-guard _ (λ _. finds-guard _ (λ ds. finds-guard _ (λ _. finds-ok (value-below w s ds l))))
 
 nat-below : (most w : ℕ) (s : List ℕ) → length s ≤ w → Finds (readNat most s) (λ v. v < 10 ^ w)
 unfolding readNat

@@ -1,13 +1,13 @@
 -- Laws of a step.
-use Prim.Native.Nat.{ℕ, _+_, _≤_}
+use Prim.Native.Nat.{ℕ, _+_, _≤_, _<_}
 use mathlib.Core.Path.{_≡_, refl, sym, ap, _∙_}
 use mathlib.Core.Bool.{Bool, true, false}
 use mathlib.Core.List.{List}
 use native.Mathlib.Omega.{arith}
 use lib.ListN.{length}
-use Rattle.text.specs.Res.{Res, pick, _≤?_, _∧?_}
+use Rattle.text.specs.Res.{Res, ok, no, pick, _≤?_, _∧?_}
 use Rattle.part.specs.Part.{bytesOf, findPart, shown}
-use Rattle.text.proofs.Steps.{is≤, both}
+use Rattle.text.proofs.Steps.{first, yes≤, is≤, and, both}
 use Rattle.part.proofs.Parts.{shown-found}
 use Rattle.print.specs.Put.{largest}
 use Rattle.records.specs.Record.{readLine, readingRes}
@@ -33,6 +33,12 @@ unfolding readingOf
 reading-is (Accepted v) e = ap readingOf e
 reading-is (Refused n) e = ap readingOf e
 
+-- a reading's view is what was viewed
+pub viewed : (m : Res Record) → readingRes (readingOf m) ≡ m
+unfolding readingOf
+viewed (ok r) = refl
+viewed (no n) = refl
+
 module _ (s : List ℕ) where
   -- the line of a cut inside the log, as it is shown
   pub cut-shown : (p : ℕ) → p ≤ length s → shown (findPart (cutAt p s .line) s) ≡ cutAt p s .line
@@ -48,6 +54,21 @@ module _ (s : List ℕ) where
           → (cut ≡ cutAt (c .place) s) × (c .place ≤ length s)
       by true h e = (cc, omega (arith, is≤ (both h .0)))
       by false h e = let z : _≡_ {A = ℕ} 0 1 = cc in absurd (omega arith)
+
+  -- inside the log and below the largest number a line comes next
+  pub next-on : (c : Cursor) → c .place < length s → c .number < largest → nextOf s c ≡ next.Line (cutAt (c .place) s) (past c (cutAt (c .place) s))
+  unfolding nextOf
+  next-on c h n = sym (first _ (and (yes≤ (omega arith)) (yes≤ (omega arith))) refl)
+
+  -- and a step reads it
+  pub step-on : (w : Walk) → w .at .place < length s → w .at .number < largest
+      → let l = bytesOf (cutAt (w .at .place) s .line) s in
+      stepOf s w ≡ record {
+        walk = record { at = past (w .at) (cutAt (w .at .place) s); held = heldAfter 73 (w .held) l };
+        taken = Line (cutAt (w .at .place) s .line) (readingOf (readLine l));
+      }
+  unfolding stepOf stepTo
+  step-on w h n = ap (stepTo s w) (next-on (w .at) h n)
 
   pub step-done : (w : Walk) → next.Done ≡ nextOf s (w .at) → _≡_ {A = Step} (record { walk = w; taken = Done }) (stepOf s w)
   unfolding stepOf stepTo

@@ -10,6 +10,7 @@ use crate::cursor::Next;
 use b_record::BRecord;
 use field::Mnemonic;
 use held::Held;
+use held::begins;
 use part::Found;
 use part::Part;
 use records::Reading;
@@ -53,13 +54,19 @@ impl Walk {
             Next::Line(cut, after) => {
                 let part = cut.line;
                 let line = part.view(log);
-                let before = self.held;
-                let reading = Record::parse_line(line);
-                let held = before.after(b'I', line);
-                let walk = Walk { held, at: after };
+                let taken = Taken::Line(part, Record::parse_line(line));
+                // What `Held::after` does, with the table copied once.
+                if begins(b'I', line) {
+                    let held = Held::set_by(line);
+                    return Step {
+                        walk: Walk { held, at: after },
+                        taken,
+                    };
+                }
+                let held = self.held;
                 Step {
-                    walk,
-                    taken: Taken::Line(part, reading),
+                    walk: Walk { held, at: after },
+                    taken,
                 }
             }
         }

@@ -3,6 +3,8 @@
 
 #[path = "../../../../shared/docs/src/src/util/parse_error.rs"]
 mod error;
+#[path = "../../../../shared/docs/src/src/parse.rs"]
+pub mod parse;
 #[path = "../../../../shared/docs/src/src/records/mod.rs"]
 pub mod records;
 #[path = "../util.rs"]

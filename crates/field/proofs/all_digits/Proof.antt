@@ -1,10 +1,12 @@
-use Prim.Native.Nat.{_≤_, _-_}
-use mathlib.Core.Path.{_≡_, refl}
+use Prim.Native.Nat.{_-_}
+use mathlib.Core.Path.{_≡_, refl, sym, _∙_}
+use mathlib.Core.Logic.{⊎-elim}
 use borrow.Author.Needs.{needs}
 use lib.ListN.{length, drop}
+use Rattle.text.specs.Res.{_∧?_}
 use Rattle.text.specs.Number.{isDigit, allDigits}
-use Rattle.text.proofs.Steps.{so-true, so-false}
-use Rattle.field.proofs.Every.{Every, over, next, done}
+use Rattle.text.proofs.Steps.{so-true, so-false, fails, holds}
+use Rattle.field.proofs.Every.{Every, next-seen, all-seen}
 use Rattle.field.proofs.all_digits.Statement.{statement}
 use Rattle.field.proofs.all_digits.Tie as tie
 
@@ -12,25 +14,22 @@ every-digit : Every isDigit allDigits
 unfolding allDigits
 every-digit = record { none = refl; more = λ b s. refl }
 
--- what is left, from here, is the whole
+-- what is seen and what is left, from here, are the whole
 abbrev Inv-loop : tie.InvT-loop
-Inv-loop text i₀ i = (i ≤ length text) × (allDigits (drop i text) ≡ allDigits text)
+Inv-loop text all₀ i₀ all i = (all ∧? allDigits (drop i text)) ≡ allDigits text
 
 abbrev μ-loop : tie.MeasureT-loop
-μ-loop text i₀ i = length text - i
-
-returns : tie.Need-returns Inv-loop μ-loop
-returns c =
-    let l = c .before .before .before .before .loop in
-    over every-digit _ (l .i) (search needs) (l .inv .1) (so-false (c .before .is-digit .ensures) (c .if1 .taken))
+μ-loop text all₀ i₀ all i = length text - i
 
 loop-again : tie.Need-loop-again Inv-loop μ-loop
 loop-again c =
     let l = c .before .before .before .before .loop in
-    (search needs, next every-digit _ (l .i) (search needs) (l .inv .1) (so-true (c .before .is-digit .ensures) (c .if1 .left)))
+    let digit = c .before .is-digit .ensures in
+    next-seen every-digit _ (l .i) (l .all) (search needs) (l .inv)
+    (⊎-elim (λ w. w .1 ∙ sym (fails _ (so-false digit (w .0 .taken)))) (λ w. w .1 ∙ sym (holds (so-true digit (w .0 .left)) refl)) (c .if1 .came))
 
-ends : tie.Need-returns-2 Inv-loop μ-loop
-ends c = done every-digit _ (c .before .loop .i) (search needs) (c .before .loop .inv .1)
+ends : tie.Need-returns Inv-loop μ-loop
+ends c = all-seen every-digit _ (c .before .loop .i) (search needs) (c .before .loop .inv)
 
 pub all-digits-spec : {M : Type 1} → statement M
-all-digits-spec = tie.close (tie.spec Inv-loop μ-loop (search needs) (search needs) (search needs) returns (search needs) (search needs) loop-again ends)
+all-digits-spec = tie.close (tie.spec Inv-loop μ-loop (λ c. holds refl refl) (search needs) (search needs) (search needs) (search needs) loop-again ends)

@@ -4,27 +4,22 @@ use mathlib.Core.Path.{_≡_}
 use mathlib.Core.List.{List}
 use denote.Ref.{now}
 use Rattle.text.specs.Res.{Res, ok, no}
-use Rattle.text.specs.Line.{byte}
 use Rattle.text.specs.Number.{readNat, u8Res, u16Res}
 use Rattle.text.proofs.Steps.{came, on, off, pass, stop, yes=, no=}
 use Rattle.field.specs.Field.{cut, columns, sized}
-use Rattle.coord.specs.Coord.{compassRes, signOf, readCoord}
-use Rattle.coord.specs.declared.Compass.{Compass}
+use Rattle.coord.specs.Coord.{readCoord}
 use Rattle.coord.proofs.RawCoord.parse_ascii.Statement.{statement}
 use Rattle.coord.proofs.RawCoord.parse_ascii.Tie as tie
 
 abbrev text : tie.Start → List ℕ
 text b = now (b .args .text)
 
--- the three parts of the text
+-- the two numbers of the text
 abbrev whole : tie.Start → Res ℕ
 whole b = columns 0 (b .args .d) (readNat 255) (text b)
 
 abbrev small : tie.Start → Res ℕ
 small b = columns (b .args .d) (b .args .d + 5) (readNat 65535) (text b)
-
-abbrev letter : tie.Start → Res Compass
-letter b = signOf (b .args .x) (b .args .y) (byte (b .args .d + 5) (text b))
 
 degrees : (c : tie.After-whole) → ok (c .whole .given .0 .0) ≡ whole (search needs)
 unfolding columns cut
@@ -41,12 +36,6 @@ thousandths c = came u16Res (c .small .given .1) (c .before .before .read-u16 .e
 no-thousandths : (c : tie.After-no-thousandths) → no (c .no-thousandths .given .0 .0) ≡ small (search needs)
 unfolding columns cut
 no-thousandths c = came u16Res (c .no-thousandths .given .1) (c .before .before .read-u16 .ensures)
-
-sign : (c : tie.After-sign) → ok (c .sign .given .0 .0) ≡ letter (search needs)
-sign c = came compassRes (c .sign .given .1) (c .before .before .sign-of .ensures)
-
-no-sign : (c : tie.After-no-sign) → no (c .no-sign .given .0 .0) ≡ letter (search needs)
-no-sign c = came compassRes (c .no-sign .given .1) (c .before .before .sign-of .ensures)
 
 pub parse-ascii-spec : {M : Type 1} → statement M
 unfolding sized readCoord
@@ -72,8 +61,4 @@ parse-ascii-spec =
     (λ c. pass _ (yes= (search needs)) (on _ (degrees (search needs)) (off _ (no-thousandths (search needs)))))
     (search needs)
     (search needs)
-    (search needs)
-    (search needs)
-    (search needs)
-    (λ c. pass _ (yes= (search needs)) (on _ (degrees (search needs)) (on _ (thousandths (search needs)) (on _ (sign (search needs)) (c .within .ensures)))))
-    (λ c. pass _ (yes= (search needs)) (on _ (degrees (search needs)) (on _ (thousandths (search needs)) (off _ (no-sign (search needs)))))))
+    (λ c. pass _ (yes= (search needs)) (on _ (degrees (search needs)) (on _ (thousandths (search needs)) (c .lettered .ensures)))))

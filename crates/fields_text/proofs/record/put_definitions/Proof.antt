@@ -9,8 +9,8 @@ use Rattle.print.proofs.Writing.{kept, nothing}
 use Rattle.table.specs.Table.{defsOf}
 use Rattle.table.proofs.Defs.{long-under}
 use Rattle.fields_text.specs.Record.{definitionShown, definitionsShown}
-use Rattle.fields_text.proofs.Rows.{Row, in-turn}
-use Rattle.fields_text.proofs.Names.{count-defs, defined}
+use Rattle.fields_value.proofs.Rows.{Row, in-turn}
+use Rattle.fields_value.proofs.Names.{count-defs, defined}
 use Rattle.fields_text.proofs.record.put_definitions.Statement.{statement}
 use Rattle.fields_text.proofs.record.put_definitions.Tie as tie
 

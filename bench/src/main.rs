@@ -1,0 +1,76 @@
+//! Times this reader beside igc-rs on the same logs in one process. usage: bench
+mod logs;
+mod ours;
+mod rust;
+
+use logs::Log;
+use std::hint::black_box;
+use std::time::Instant;
+
+type Work = fn(&str) -> u64;
+
+/// What both sides do with a log.
+const WORKS: [(&str, Work, Work); 4] = [
+    ("read", ours::read, rust::read),
+    ("step", ours::step, rust::read),
+    ("look up", ours::look_up, rust::look_up),
+    ("print", ours::print, rust::print),
+];
+
+fn timed(log: &str, work: Work) -> f64 {
+    let start = Instant::now();
+    black_box(work(black_box(log)));
+    start.elapsed().as_nanos() as f64
+}
+
+/// The best of some rounds of each, in ns a line. The two take turns, so that a slow moment of the machine meets both. Both are
+/// held to one sum, by which neither can have left a line out.
+fn best(log: &Log, rounds: usize, ours: Work, rust: Work) -> (f64, f64) {
+    assert_eq!(ours(&log.text), rust(&log.text), "{}: the sums differ", log.name);
+    let mut least = (f64::MAX, f64::MAX);
+    for _ in 0..rounds {
+        least.0 = least.0.min(timed(&log.text, ours));
+        least.1 = least.1.min(timed(&log.text, rust));
+    }
+    let lines = log.text.lines().count() as f64;
+    (least.0 / lines, least.1 / lines)
+}
+
+fn beside_the_rust() {
+    println!("1 MB, best of 100 rounds, ns a line");
+    println!("{:<8} {:<8} {:>7} {:>7} {:>6}", "log", "work", "ours", "rust", "ratio");
+    for make in [logs::fixes, logs::mixed, logs::damaged] {
+        let log = make(1 << 20);
+        for (name, ours, rust) in WORKS {
+            let (x, y) = best(&log, 100, ours, rust);
+            println!("{:<8} {name:<8} {x:>7.1} {y:>7.1} {:>6.2}", log.name, x / y);
+        }
+    }
+}
+
+/// Every size takes its turn in every round, so that a slow moment of the machine meets all of them.
+fn growth() {
+    println!();
+    println!("this reader, best of 40 rounds, ns a line by the log's size, and the largest over the least");
+    println!("{:<8} {:<8} {:>7} {:>7} {:>7} {:>7} {:>7}", "log", "work", "64 KB", "512 KB", "4 MB", "16 MB", "spread");
+    for make in [logs::fixes, logs::mixed, logs::damaged] {
+        let sizes = [1 << 16, 1 << 19, 1 << 22, 1 << 24].map(make);
+        for (name, ours, _) in WORKS {
+            let mut took = [f64::MAX; 4];
+            for _ in 0..40 {
+                for (least, log) in took.iter_mut().zip(&sizes) {
+                    *least = least.min(timed(&log.text, ours) / log.text.lines().count() as f64);
+                }
+            }
+            let spread = took.iter().fold(0f64, |a, &t| a.max(t)) / took.iter().fold(f64::MAX, |a, &t| a.min(t));
+            print!("{:<8} {name:<8}", sizes[0].name);
+            took.iter().for_each(|t| print!(" {t:>7.1}"));
+            println!(" {spread:>7.2}");
+        }
+    }
+}
+
+fn main() {
+    beside_the_rust();
+    growth();
+}

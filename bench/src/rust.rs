@@ -1,0 +1,67 @@
+//! The same work by igc-rs: the sums are those of crates/timed, so that neither side can leave a reading out.
+use igc::parse::parse_records;
+use igc::records::{BRecord, Extendable, IRecord, Record};
+use std::fmt::Write;
+use std::hint::black_box;
+
+fn above(height: i16) -> u64 {
+    height.max(0) as u64
+}
+
+fn of_fix(fix: &BRecord) -> u64 {
+    let time = fix.timestamp.seconds_since_midnight() as u64;
+    let minutes = fix.pos.lat.0.minute_thousandths as u64 + fix.pos.lon.0.minute_thousandths as u64;
+    time + minutes + above(fix.pressure_alt) + above(fix.gps_alt)
+}
+
+pub fn read(log: &str) -> u64 {
+    let mut sum = 0u64;
+    for read in parse_records(log) {
+        sum = sum.wrapping_add(match read {
+            Ok(Record::B(fix)) => of_fix(&fix),
+            Ok(_) => 1,
+            Err(_) => 0,
+        });
+    }
+    sum
+}
+
+fn of_value(table: &Option<IRecord>, fix: &BRecord, name: &str) -> u64 {
+    let Some(table) = table else { return 0 };
+    let Some(found) = table.0.extensions.iter().find(|e| e.mnemonic == name) else { return 0 };
+    match fix.get_extension(found) {
+        Ok(value) => value.len() as u64 + value.as_bytes().first().map_or(0, |b| *b as u64),
+        Err(_) => 0,
+    }
+}
+
+pub fn look_up(log: &str) -> u64 {
+    let name = black_box("ENL");
+    let mut table = None;
+    let mut sum = 0u64;
+    for read in parse_records(log) {
+        sum = sum.wrapping_add(match read {
+            Ok(Record::B(fix)) => of_fix(&fix) + of_value(&table, &fix, name),
+            Ok(Record::I(i)) => {
+                table = Some(i);
+                1
+            }
+            Ok(_) => 1,
+            Err(_) => 0,
+        });
+    }
+    sum
+}
+
+pub fn print(log: &str) -> u64 {
+    let mut text = String::with_capacity(1024);
+    let mut sum = 0u64;
+    for read in parse_records(log) {
+        if let Ok(record) = read {
+            text.clear();
+            write!(text, "{record}").unwrap();
+            sum = sum.wrapping_add(black_box(&text).len() as u64);
+        }
+    }
+    sum
+}

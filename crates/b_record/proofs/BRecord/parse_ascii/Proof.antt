@@ -1,0 +1,86 @@
+use borrow.Author.Needs.{needs}
+use Prim.Native.Nat.{ℕ}
+use mathlib.Core.Path.{_≡_, _∙_}
+use mathlib.Core.Bool.{true}
+use mathlib.Core.List.{List}
+use denote.Ref.{now}
+use Rattle.text.specs.Res.{ok, no}
+use Rattle.text.specs.Line.{byte}
+use Rattle.text.proofs.Steps.{came, on, off}
+use Rattle.field.specs.Field.{cut, columns, isAscii}
+use Rattle.field.proofs.Fields.{known-columns}
+use Rattle.datetime.specs.Time.{readTime, timeIn, timeRes}
+use Rattle.coord.specs.Coord.{readPosition, positionIn, positionRes}
+use Rattle.b_record.specs.BRecord.{fixOf, fixRes, readHeights, heightsRes, readFix}
+use Rattle.b_record.proofs.BRecord.parse_ascii.Statement.{statement}
+use Rattle.b_record.proofs.BRecord.parse_ascii.Tie as tie
+
+abbrev line : tie.Start → List ℕ
+line b = now (b .args .line)
+
+ascii-line : (b : tie.Start) → isAscii (line b) ≡ true
+ascii-line b = b .pre .1
+
+-- in an ASCII line a field's own test says nothing
+time-read : (c : tie.After-parse-ascii) → timeRes (c .parse-ascii .result) ≡ columns 1 7 readTime (line (search needs))
+unfolding columns cut timeIn readTime
+time-read c = c .parse-ascii .ensures ∙ known-columns 1 7 6 _ _ (ascii-line (search needs))
+
+place-read : (c : tie.After-parse-ascii2) → positionRes (c .parse-ascii2 .result) ≡ columns 7 24 readPosition (line (search needs))
+unfolding columns cut positionIn readPosition
+place-read c = c .parse-ascii2 .ensures ∙ known-columns 7 24 17 _ _ (ascii-line (search needs))
+
+time : (c : tie.After-time) → ok (c .time .given .0 .0) ≡ columns 1 7 readTime (line (search needs))
+time c = came timeRes (c .time .given .1) (time-read (search needs))
+
+no-time : (c : tie.After-no-time) → no (c .no-time .given .0 .0) ≡ columns 1 7 readTime (line (search needs))
+no-time c = came timeRes (c .no-time .given .1) (time-read (search needs))
+
+place : (c : tie.After-place) → ok (c .place .given .0 .0) ≡ columns 7 24 readPosition (line (search needs))
+place c = came positionRes (c .place .given .1) (place-read (search needs))
+
+no-place : (c : tie.After-no-place) → no (c .no-place .given .0 .0) ≡ columns 7 24 readPosition (line (search needs))
+no-place c = came positionRes (c .no-place .given .1) (place-read (search needs))
+
+valid : (c : tie.After-valid) → ok (c .valid .given .0 .0) ≡ fixOf (byte 24 (line (search needs)))
+valid c = came fixRes (c .valid .given .1) (c .before .before .fix-of .ensures)
+
+no-fix : (c : tie.After-no-fix) → no (c .no-fix .given .0 .0) ≡ fixOf (byte 24 (line (search needs)))
+no-fix c = came fixRes (c .no-fix .given .1) (c .before .before .fix-of .ensures)
+
+heights : (c : tie.After-heights) → ok (c .heights .given .0 .0) ≡ readHeights (line (search needs))
+heights c = came heightsRes (c .heights .given .1) (c .before .before .read-heights .ensures)
+
+no-heights : (c : tie.After-no-heights) → no (c .no-heights .given .0 .0) ≡ readHeights (line (search needs))
+no-heights c = came heightsRes (c .no-heights .given .1) (c .before .before .read-heights .ensures)
+
+pub parse-ascii-spec : {M : Type 1} → statement M
+unfolding readFix
+parse-ascii-spec =
+    tie.close
+    (tie.spec
+    (search needs)
+    (search needs)
+    (search needs)
+    (search needs)
+    (search needs)
+    (search needs)
+    (λ c. off _ (no-time (search needs)))
+    (search needs)
+    (search needs)
+    (search needs)
+    (search needs)
+    (search needs)
+    (search needs)
+    (λ c. on _ (time (search needs)) (off _ (no-place (search needs))))
+    (search needs)
+    (search needs)
+    (search needs)
+    (search needs)
+    (λ c. on _ (time (search needs)) (on _ (place (search needs)) (off _ (no-fix (search needs)))))
+    (search needs)
+    (search needs)
+    (search needs)
+    (search needs)
+    (λ c. on _ (time (search needs)) (on _ (place (search needs)) (on _ (valid (search needs)) (on _ (heights (search needs)) (rw (c .from-column .ensures))))))
+    (λ c. on _ (time (search needs)) (on _ (place (search needs)) (on _ (valid (search needs)) (off _ (no-heights (search needs)))))))

@@ -1,0 +1,158 @@
+// Latitude and longitude, types apart over one coordinate.
+ghost use mathlib.Core.Path.{_≡_};
+ghost use Rattle.text.specs.Res.{ok};
+ghost use Rattle.print.specs.Put.{Wrote};
+ghost use Rattle.print.specs.Print.{Prints};
+ghost use Rattle.coord.specs.Coord.{lettered, readLatitude, readLongitude, latitudeIn, longitudeIn, latitudeBy, longitudeBy, newLatitude, newLongitude, latitudeText, longitudeText, latitudeRes, longitudeRes};
+use crate::Compass;
+use crate::CoordRead;
+use crate::LatitudeRead;
+use crate::LongitudeRead;
+use crate::RawCoord;
+use crate::RawLatitude;
+use crate::RawLongitude;
+use field::is_ascii;
+use print::printed::Printed;
+use text::refusal::Refusal;
+
+impl RawLatitude {
+    pub fn new(degrees: u8, thousandths: u16, sign: Compass) -> LatitudeRead
+        ensures { λ r. ⌜ latitudeRes r ≡ newLatitude degrees thousandths sign ⌝ }
+    {
+        match RawCoord::new(
+            90,
+            Compass::North,
+            Compass::South,
+            degrees,
+            thousandths,
+            sign,
+        ) {
+            CoordRead::Ok(coord) => LatitudeRead::Ok(RawLatitude(coord)),
+            CoordRead::Refused(no) => LatitudeRead::Refused(no),
+        }
+    }
+
+    // Of its two numbers and its letter, as reading takes them.
+    pub fn lettered(degrees: u8, thousandths: u16, letter: u8) -> LatitudeRead
+        ensures { λ r. ⌜ latitudeRes r ≡ latitudeBy degrees thousandths letter ⌝ }
+    {
+        match RawCoord::lettered(
+            90,
+            Compass::North,
+            Compass::South,
+            degrees,
+            thousandths,
+            letter,
+        ) {
+            CoordRead::Ok(coord) => LatitudeRead::Ok(RawLatitude(coord)),
+            CoordRead::Refused(no) => LatitudeRead::Refused(no),
+        }
+    }
+
+    pub fn parse_ascii(text: &[u8]) -> LatitudeRead
+        ensures { λ r. ⌜ latitudeRes r ≡ latitudeIn (now (text .entry)) ⌝ }
+    {
+        match RawCoord::parse_ascii(text, 2, 90, Compass::North, Compass::South) {
+            CoordRead::Ok(coord) => LatitudeRead::Ok(RawLatitude(coord)),
+            CoordRead::Refused(no) => LatitudeRead::Refused(no),
+        }
+    }
+
+    pub fn parse(text: &[u8]) -> LatitudeRead
+        ensures { λ r. ⌜ latitudeRes r ≡ readLatitude (now (text .entry)) ⌝ }
+    {
+        if text.len() != 8 {
+            return LatitudeRead::Refused(Refusal::WrongLength);
+        }
+        if !is_ascii(text) {
+            return LatitudeRead::Refused(Refusal::NotAscii);
+        }
+        RawLatitude::parse_ascii(text)
+    }
+
+    pub fn put(self, buf: &mut [u8], at: usize) -> usize
+        ensures { λ r. ⌜ Wrote (now (buf .entry)) at (latitudeText self) (now (buf .exit)) r ⌝ }
+    {
+        self.0.put(2, buf, at)
+    }
+
+    pub fn print(self, buf: &mut [u8]) -> Printed
+        ensures { λ r. ⌜ Prints (ok (latitudeText self)) (now (buf .entry)) (now (buf .exit)) r ⌝ }
+    {
+        if buf.len() < self.put(&mut [], 0) {
+            return Printed::Refused(Refusal::NoRoom);
+        }
+        Printed::Written(self.put(buf, 0))
+    }
+}
+
+impl RawLongitude {
+    pub fn new(degrees: u8, thousandths: u16, sign: Compass) -> LongitudeRead
+        ensures { λ r. ⌜ longitudeRes r ≡ newLongitude degrees thousandths sign ⌝ }
+    {
+        match RawCoord::new(
+            180,
+            Compass::East,
+            Compass::West,
+            degrees,
+            thousandths,
+            sign,
+        ) {
+            CoordRead::Ok(coord) => LongitudeRead::Ok(RawLongitude(coord)),
+            CoordRead::Refused(no) => LongitudeRead::Refused(no),
+        }
+    }
+
+    // Of its two numbers and its letter, as reading takes them.
+    pub fn lettered(degrees: u8, thousandths: u16, letter: u8) -> LongitudeRead
+        ensures { λ r. ⌜ longitudeRes r ≡ longitudeBy degrees thousandths letter ⌝ }
+    {
+        match RawCoord::lettered(
+            180,
+            Compass::East,
+            Compass::West,
+            degrees,
+            thousandths,
+            letter,
+        ) {
+            CoordRead::Ok(coord) => LongitudeRead::Ok(RawLongitude(coord)),
+            CoordRead::Refused(no) => LongitudeRead::Refused(no),
+        }
+    }
+
+    pub fn parse_ascii(text: &[u8]) -> LongitudeRead
+        ensures { λ r. ⌜ longitudeRes r ≡ longitudeIn (now (text .entry)) ⌝ }
+    {
+        match RawCoord::parse_ascii(text, 3, 180, Compass::East, Compass::West) {
+            CoordRead::Ok(coord) => LongitudeRead::Ok(RawLongitude(coord)),
+            CoordRead::Refused(no) => LongitudeRead::Refused(no),
+        }
+    }
+
+    pub fn parse(text: &[u8]) -> LongitudeRead
+        ensures { λ r. ⌜ longitudeRes r ≡ readLongitude (now (text .entry)) ⌝ }
+    {
+        if text.len() != 9 {
+            return LongitudeRead::Refused(Refusal::WrongLength);
+        }
+        if !is_ascii(text) {
+            return LongitudeRead::Refused(Refusal::NotAscii);
+        }
+        RawLongitude::parse_ascii(text)
+    }
+
+    pub fn put(self, buf: &mut [u8], at: usize) -> usize
+        ensures { λ r. ⌜ Wrote (now (buf .entry)) at (longitudeText self) (now (buf .exit)) r ⌝ }
+    {
+        self.0.put(3, buf, at)
+    }
+
+    pub fn print(self, buf: &mut [u8]) -> Printed
+        ensures { λ r. ⌜ Prints (ok (longitudeText self)) (now (buf .entry)) (now (buf .exit)) r ⌝ }
+    {
+        if buf.len() < self.put(&mut [], 0) {
+            return Printed::Refused(Refusal::NoRoom);
+        }
+        Printed::Written(self.put(buf, 0))
+    }
+}

@@ -1,0 +1,13 @@
+use borrow.Author.Needs.{needs}
+use Rattle.print.proofs.Writing.{then}
+use Rattle.fields_piece.specs.Piece.{coordShown}
+use Rattle.fields_piece.proofs.put_coord.Statement.{statement}
+use Rattle.fields_piece.proofs.put_coord.Tie as tie
+
+-- the byte that is put last is the letter
+returns : tie.Need-returns
+unfolding coordShown
+returns c = let l : tie.After-letter = search needs in rw (← l .letter .ensures) (search (then))
+
+pub put-coord-spec : {M : Type 1} → statement M
+put-coord-spec = tie.close (tie.spec (search needs) (search needs) (search needs) (search needs) (search needs) (search needs) (search needs) returns)
