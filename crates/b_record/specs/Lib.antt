@@ -1,2 +1,1 @@
 pub mod BRecord
-pub mod Quick

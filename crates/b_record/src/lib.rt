@@ -1,18 +1,12 @@
 // B lines, as src/records/b_record.rs has them.
-mod quick;
-
 ghost use mathlib.Core.Path.{_≡_};
-ghost use mathlib.Core.Bool.{true};
 ghost use Prim.Native.Nat.{_≤_};
 ghost use lib.ListN.{length};
 ghost use Rattle.part.specs.Part.{findPart, partBytes, shown, Shows, foundRes};
 ghost use Rattle.extension.specs.Value.{findValue};
-ghost use Rattle.field.specs.Field.{isAscii};
-ghost use Rattle.print.specs.Put.{Wrote};
+ghost use Rattle.put.specs.Put.{Wrote};
 ghost use Rattle.print.specs.Print.{Prints};
-ghost use Rattle.b_record.specs.BRecord.{fixLetter, fixOf, readHeights, readFix, readB, fixText, bBody, bText, bBook, fixRes, heightsRes, bRes};
-use crate::quick::Quick;
-use crate::quick::quick_fix;
+ghost use Rattle.b_record.specs.BRecord.{fixLetter, fixOf, readHeights, readB, fixText, bBody, bText, bBook, fixRes, heightsRes, bRes};
 use coord::position::PositionRead;
 use coord::position::RawPosition;
 use datetime::Time;
@@ -21,10 +15,10 @@ use extension::Extension;
 use field::is_ascii;
 use part::Found;
 use part::Part;
+use print::number::put_i16;
 use print::printed::Printed;
-use print::put::put_byte;
-use print::put::put_i16;
-use print::put::put_part;
+use put::put_byte;
+use put::put_part;
 use text::number::I16Read;
 use text::number::read_i16;
 use text::refusal::Refusal;
@@ -54,7 +48,7 @@ struct Heights {
     gps: GpsAlt,
 }
 
-enum FixRead {
+pub enum FixRead {
     Ok(FixValid),
     Refused(Refusal),
 }
@@ -78,15 +72,15 @@ impl FixValid {
             FixValid::NavWarning => b'V',
         }
     }
-}
 
-fn fix_of(letter: u8) -> FixRead
-    ensures { λ r. ⌜ fixRes r ≡ fixOf letter ⌝ }
-{
-    match letter {
-        b'A' => FixRead::Ok(FixValid::Valid),
-        b'V' => FixRead::Ok(FixValid::NavWarning),
-        _ => FixRead::Refused(Refusal::Syntax),
+    pub fn from_letter(letter: u8) -> FixRead
+        ensures { λ r. ⌜ fixRes r ≡ fixOf letter ⌝ }
+    {
+        match letter {
+            b'A' => FixRead::Ok(FixValid::Valid),
+            b'V' => FixRead::Ok(FixValid::NavWarning),
+            _ => FixRead::Refused(Refusal::Syntax),
+        }
     }
 }
 
@@ -120,17 +114,6 @@ impl BRecord {
         if !is_ascii(line) {
             return BRead::Refused(Refusal::NotAscii);
         }
-        match quick_fix(line) {
-            Quick::Fix(fix) => BRead::Ok(fix),
-            Quick::No => BRecord::parse_ascii(line),
-        }
-    }
-
-    // The fields of a line that the caller knows to be ASCII.
-    fn parse_ascii(line: &[u8]) -> BRead
-        requires { ⌜ (35 ≤ length (now line)) × (isAscii (now line) ≡ true) ⌝ }
-        ensures { λ r. ⌜ bRes r ≡ readFix (now (line .entry)) ⌝ }
-    {
         let timestamp = match Time::parse_ascii(&line[1..7]) {
             TimeRead::Ok(time) => time,
             TimeRead::Refused(no_time) => return BRead::Refused(no_time),
@@ -139,7 +122,7 @@ impl BRecord {
             PositionRead::Ok(place) => place,
             PositionRead::Refused(no_place) => return BRead::Refused(no_place),
         };
-        let fix_valid = match fix_of(line[24]) {
+        let fix_valid = match FixValid::from_letter(line[24]) {
             FixRead::Ok(valid) => valid,
             FixRead::Refused(no_fix) => return BRead::Refused(no_fix),
         };

@@ -1,7 +1,7 @@
 // Turnpoints of a task.
 ghost use mathlib.Core.Path.{_≡_};
 ghost use Rattle.part.specs.Part.{findMaybe, maybeBytes, shown, Shows};
-ghost use Rattle.print.specs.Put.{Wrote};
+ghost use Rattle.put.specs.Put.{Wrote};
 ghost use Rattle.print.specs.Print.{Prints};
 ghost use Rattle.c_record.specs.CRecord.{readTurnpoint, turnpointBody, turnpointText, turnpointBook, turnpointRes};
 use crate::CRecordTurnpoint;
@@ -12,8 +12,8 @@ use field::is_ascii;
 use part::Found;
 use part::MaybePart;
 use print::printed::Printed;
-use print::put::put_byte;
-use print::put::put_maybe;
+use put::put_byte;
+use put::put_maybe;
 use text::refusal::Refusal;
 
 impl CRecordTurnpoint {

@@ -1,7 +1,7 @@
 // Latitude and longitude, types apart over one coordinate.
 ghost use mathlib.Core.Path.{_≡_};
 ghost use Rattle.text.specs.Res.{ok};
-ghost use Rattle.print.specs.Put.{Wrote};
+ghost use Rattle.put.specs.Put.{Wrote};
 ghost use Rattle.print.specs.Print.{Prints};
 ghost use Rattle.coord.specs.Coord.{lettered, readLatitude, readLongitude, latitudeIn, longitudeIn, latitudeBy, longitudeBy, newLatitude, newLongitude, latitudeText, longitudeText, latitudeRes, longitudeRes};
 use crate::Compass;

@@ -1,7 +1,7 @@
 // A position: latitude and longitude.
 ghost use mathlib.Core.Path.{_≡_};
 ghost use Rattle.text.specs.Res.{ok};
-ghost use Rattle.print.specs.Put.{Wrote};
+ghost use Rattle.put.specs.Put.{Wrote};
 ghost use Rattle.print.specs.Print.{Prints};
 ghost use Rattle.coord.specs.Coord.{readPosition, positionIn, positionText, positionBook, positionRes};
 use crate::LatitudeRead;

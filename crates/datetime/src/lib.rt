@@ -2,14 +2,14 @@
 ghost use mathlib.Core.Path.{_≡_};
 ghost use Rattle.text.specs.Res.{ok};
 ghost use Rattle.field.specs.Field.{sized};
-ghost use Rattle.print.specs.Put.{Wrote};
+ghost use Rattle.put.specs.Put.{Wrote};
 ghost use Rattle.print.specs.Print.{Prints};
 ghost use Rattle.datetime.specs.Three.{readThree, threeText, threeRes, together};
 ghost use Rattle.datetime.specs.Time.{timeOf, readTime, timeIn, timeText, secondsOf, timeBook, timeRes};
 ghost use Rattle.datetime.specs.Date.{dateOf, readDate, dateIn, newDate, dateText, dateBook, dateRes};
 use field::is_ascii;
+use print::number::put_nat;
 use print::printed::Printed;
-use print::put::put_nat;
 use text::number::U8Read;
 use text::number::read_u8;
 use text::refusal::Refusal;

@@ -1,11 +1,11 @@
 // "Numbers as text" and the edges of heights and counts.
 use crate::say;
 use part::Part;
+use print::number::put_i8;
+use print::number::put_i16;
+use print::number::put_nat;
 use print::printed::print_int;
 use print::printed::print_part;
-use print::put::put_i8;
-use print::put::put_i16;
-use print::put::put_nat;
 use text::number::I8Read;
 use text::number::I16Read;
 use text::number::U8Read;

@@ -3,12 +3,12 @@ pub mod value;
 
 ghost use mathlib.Core.Path.{_≡_};
 ghost use Rattle.text.specs.Res.{ok};
-ghost use Rattle.print.specs.Put.{Wrote};
+ghost use Rattle.put.specs.Put.{Wrote};
 ghost use Rattle.print.specs.Print.{Prints};
 ghost use Rattle.extension.specs.Extension.{readExtension, newExtension, extensionText, extensionRes};
 use field::Mnemonic;
+use print::number::put_nat;
 use print::printed::Printed;
-use print::put::put_nat;
 use text::number::U8Read;
 use text::number::read_u8;
 use text::refusal::Refusal;

@@ -4,7 +4,7 @@ use mathlib.Core.Path.{_≡_}
 use mathlib.Core.List.{List}
 use native.Mathlib.Omega.{arith}
 use lib.ListN.{length, length-take, length-drop}
-use Rattle.field.specs.Field.{cut, columns}
+use Rattle.field.specs.Field.{cut}
 
 -- w columns are w bytes
 pub wide : (a w : ℕ) (s : List ℕ) → a + w ≤ length s → length (cut a (a + w) s) ≡ w

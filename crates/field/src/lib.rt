@@ -4,9 +4,9 @@ ghost use mathlib.Core.List.{[], _∷_};
 ghost use Prim.Native.Nat.{_+_, _*_, _<_, _^_};
 ghost use lib.ListN.{drop};
 ghost use Rattle.text.specs.Number.{isDigit, allDigits};
-ghost use Rattle.print.specs.Put.{Wrote};
+ghost use Rattle.put.specs.Put.{Wrote};
 ghost use Rattle.field.specs.Field.{isAscii, mnemonicText};
-use print::put::put_byte;
+use put::put_byte;
 
 // Three bytes by value, where the Rust holds a `&str` of three characters.
 pub struct Mnemonic(pub u8, pub u8, pub u8);

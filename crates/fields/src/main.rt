@@ -3,7 +3,7 @@ ghost use mathlib.Core.Path.{_≡_};
 ghost use Prim.Native.Nat.{_≤_, _<_};
 ghost use lib.ListN.{length};
 use fields_out::show;
-use print::put::put_bytes;
+use put::put_bytes;
 
 // A log of at most 65,536 bytes, and one byte more, by which a longer one shows.
 fn log_buffer() -> [u8; 65537]

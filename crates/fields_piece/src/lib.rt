@@ -1,5 +1,5 @@
 // The pieces that `fields_text` is made of: a field of each kind, in plain decimal, behind the space that parts it from the one before.
-ghost use Rattle.print.specs.Put.{Wrote};
+ghost use Rattle.put.specs.Put.{Wrote};
 ghost use Rattle.fields_piece.specs.Piece.{number, signedNumber, byteShown, partText, partShown, maybeShown, two, three, timeShown, dateShown, flightShown, coordShown, positionShown, letterShown, tripleShown};
 use c_record::MaybeDate;
 use coord::RawCoord;
@@ -10,9 +10,9 @@ use manufacturer::MaybeLetter;
 use manufacturer::MaybeTriple;
 use part::MaybePart;
 use part::Part;
-use print::put::put_byte;
-use print::put::put_i16;
-use print::put::put_nat;
+use print::number::put_i16;
+use print::number::put_nat;
+use put::put_byte;
 
 pub fn put_number(n: u64, buf: &mut [u8], at: usize) -> usize
     ensures { λ r. ⌜ Wrote (now (buf .entry)) at (number n) (now (buf .exit)) r ⌝ }

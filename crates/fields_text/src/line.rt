@@ -1,13 +1,13 @@
 // A whole line of the program's text.
-ghost use Rattle.print.specs.Put.{Wrote};
+ghost use Rattle.put.specs.Put.{Wrote};
 ghost use Rattle.records.specs.Record.{readingRes};
 ghost use Rattle.fields_text.specs.Line.{bookShown, printedShown, seen, fieldsShown, fieldsLine};
 use crate::record::put_record;
 use fields_piece::put_raw;
 use held::Held;
 use listing_text::put_head;
-use print::put::put_byte;
-use print::put::put_bytes;
+use put::put_byte;
+use put::put_bytes;
 use records::Reading;
 use records::Record;
 use table::Table;

@@ -1,6 +1,6 @@
 // The fields of a record, one form for each kind.
 ghost use Rattle.table.specs.Table.{defsOf};
-ghost use Rattle.print.specs.Put.{Wrote};
+ghost use Rattle.put.specs.Put.{Wrote};
 ghost use Rattle.fields_text.specs.Record.{aShown, fixShown, bShown, taskShown, declarationShown, turnpointShown, hShown, definitionShown, definitionsShown, tableShown, recordShown};
 use a_record::ARecord;
 use b_record::BRecord;
@@ -22,9 +22,9 @@ use fields_value::definition_count;
 use fields_value::put_values;
 use h_record::HRecord;
 use held::Held;
-use print::put::put_byte;
-use print::put::put_i8;
-use print::put::put_nat;
+use print::number::put_i8;
+use print::number::put_nat;
+use put::put_byte;
 use records::Record;
 use table::Table;
 

@@ -5,8 +5,8 @@ use mathlib.Core.List.{List, [], _∷_, _++_, append-assoc, append-nil}
 use native.Mathlib.Numerals.{add-one}
 use native.Mathlib.Omega.{arith}
 use lib.ListN.{take, drop}
-use Rattle.print.specs.Put.{Wrote}
-use Rattle.print.proofs.Writing.{then}
+use Rattle.put.specs.Put.{Wrote}
+use Rattle.put.proofs.Writing.{then}
 
 -- `all` is the text of each element, one after the other
 pub record Row {A : Type 0} (one : A → List ℕ) (all : List A → List ℕ) : Type 0 where

@@ -4,7 +4,7 @@ ghost use Prim.Native.Nat.{_<_, suc};
 ghost use mathlib.Core.List.{_∷_};
 ghost use lib.ListN.{length, drop};
 ghost use Rattle.part.specs.Part.{foundRes};
-ghost use Rattle.print.specs.Put.{Wrote};
+ghost use Rattle.put.specs.Put.{Wrote};
 ghost use Rattle.table.specs.Table.{defsOf};
 ghost use Rattle.fields_value.specs.Value.{foundText, valueShown, tableNames, askedFor, valuesShown};
 use b_record::BRecord;
@@ -14,8 +14,8 @@ use held::Held;
 use held::Slot;
 use part::Found;
 use part::Part;
-use print::put::put_byte;
-use print::put::put_nat;
+use print::number::put_nat;
+use put::put_byte;
 use table::Table;
 
 // 0 with the value's place behind `@`, or the refusal's number.

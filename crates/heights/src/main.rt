@@ -5,8 +5,8 @@ use b_record::BRecord;
 use fields_text::line::put_line;
 use held::Held;
 use listing_text::listing::print_listing;
+use print::number::put_i16;
 use print::printed::Printed;
-use print::put::put_i16;
 
 fn say(text: &[u8], n: usize) {
     if n <= text.len() {

@@ -5,7 +5,6 @@ ghost use Rattle.part.specs.Part.{foundRes, shown, Shows};
 ghost use Rattle.extension.specs.Extension.{extensionRes};
 ghost use Rattle.table.specs.Table.{readTable, defsOf};
 ghost use Rattle.held.specs.Held.{noTable, setBy, begins as Held·begins, heldAfter, sameName, firstNamed, define, lookUp};
-use extension::Extension;
 use extension::ExtensionRead;
 use field::Mnemonic;
 use part::Found;

@@ -8,8 +8,8 @@ use native.Mathlib.Omega.{arith}
 use lib.ListN.{length, drop}
 use Rattle.text.specs.Res.{Res, pick}
 use Rattle.part.specs.Part.{bytesOf, findPart, shown}
-use Rattle.print.specs.Put.{Wrote}
-use Rattle.print.proofs.Writing.{then}
+use Rattle.put.specs.Put.{Wrote}
+use Rattle.put.proofs.Writing.{then}
 use Rattle.records.specs.Record.{readLine}
 use Rattle.records.specs.declared.Record.{Record}
 use Rattle.log.specs.Line.{cutAt}

@@ -3,13 +3,13 @@ pub mod listing;
 pub mod trailer;
 
 ghost use mathlib.Core.Path.{_≡_};
-ghost use Rattle.print.specs.Put.{Wrote};
+ghost use Rattle.put.specs.Put.{Wrote};
 ghost use Rattle.records.specs.Record.{readingRes};
 ghost use Rattle.listing_text.specs.Line.{letterOf, answerText, headText, fixHeights, heightsText, lineText};
 use b_record::BRecord;
-use print::put::put_byte;
-use print::put::put_i16;
-use print::put::put_nat;
+use print::number::put_i16;
+use print::number::put_nat;
+use put::put_byte;
 use records::Reading;
 use records::Record;
 

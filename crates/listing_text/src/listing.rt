@@ -2,7 +2,7 @@
 ghost use mathlib.Core.Path.{_≡_};
 ghost use Prim.Native.Nat.{_<_};
 ghost use Rattle.text.specs.Res.{ok};
-ghost use Rattle.print.specs.Put.{largest, Wrote};
+ghost use Rattle.put.specs.Put.{largest, Wrote};
 ghost use Rattle.print.specs.Print.{Prints};
 ghost use Rattle.records.specs.Record.{readingRes};
 ghost use Rattle.listing_text.specs.Trailer.{counted};

@@ -1,11 +1,11 @@
 // The trailer: counts over the readings of a walk, and where the I line in force begins.
 ghost use mathlib.Core.Path.{_≡_};
-ghost use Rattle.print.specs.Put.{Wrote};
+ghost use Rattle.put.specs.Put.{Wrote};
 ghost use Rattle.records.specs.Record.{readingRes};
 ghost use Rattle.listing_text.specs.Trailer.{nothing, isRefusal, forceAfter, offsetText, figures, trailerText};
 use held::begins;
-use print::put::put_byte;
-use print::put::put_nat;
+use print::number::put_nat;
+use put::put_byte;
 use records::Reading;
 
 // The place of the I line in force, or none.

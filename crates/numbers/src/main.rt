@@ -1,8 +1,8 @@
 // Every text of up to three bytes, read as a number of each type, in two running sums of what came of it. The Rust's own
 // `str::parse` gives the same sums (oracle/numbers); what this writes is held to them in ../stdout.
-use print::put::put_i8;
-use print::put::put_i16;
-use print::put::put_nat;
+use print::number::put_i8;
+use print::number::put_i16;
+use print::number::put_nat;
 use text::number::I8Read;
 use text::number::I16Read;
 use text::number::U8Read;

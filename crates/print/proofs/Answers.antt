@@ -4,7 +4,7 @@ use mathlib.Core.Path.{_≡_, refl, sym, _∙_}
 use mathlib.Core.List.{List}
 use Rattle.text.specs.Res.{Res}
 use Rattle.text.proofs.Answers.{made, told}
-use Rattle.print.specs.Put.{Wrote}
+use Rattle.put.specs.Put.{Wrote}
 use Rattle.print.specs.Print.{printedRes, Prints}
 use Rattle.print.specs.declared.printed.Printed.{Printed}
 use Rattle.print.specs.declared.printed.Printed.the-variants as printed

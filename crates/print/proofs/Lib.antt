@@ -1,3 +1,3 @@
-pub mod Writing
+pub mod Numbers
 pub mod Printing
 pub mod Answers

@@ -7,7 +7,7 @@ use native.Mathlib.Omega.{arith}
 use lib.ListN.{length, drop}
 use lib.Seq.{sets, sets-eq}
 use Rattle.text.specs.Res.{Res, ok, no, bind, guard, pick}
-use Rattle.print.specs.Put.{Wrote}
+use Rattle.put.specs.Put.{Wrote}
 use Rattle.print.specs.Print.{answerTo, leftBy, Prints}
 use Rattle.text.specs.declared.refusal.Refusal.{Refusal}
 use Rattle.text.specs.declared.refusal.Refusal.the-variants.{NoRoom}

@@ -1,3 +1,3 @@
-// What every field and every record is printed with: pieces put into lent bytes, and a printer's answer.
+// What every field and every record is printed with: numbers put into lent bytes, and a printer's answer.
+pub mod number;
 pub mod printed;
-pub mod put;

@@ -3,10 +3,10 @@ ghost use Rattle.text.specs.Res.{ok};
 ghost use Rattle.text.specs.Number.{signed};
 ghost use Rattle.part.specs.Part.{partText};
 ghost use Rattle.print.specs.Print.{Prints};
-use crate::put::put_int;
-use crate::put::put_part;
+use crate::number::put_int;
 use part::Found;
 use part::Part;
+use put::put_part;
 use text::refusal::Refusal;
 
 // The length written, or the refusal.

@@ -9,7 +9,7 @@ use Rattle.datetime.proofs.Answers.{time-undone, date-undone}
 use Rattle.coord.proofs.Answers.{latitude-undone, longitude-undone, position-undone}
 use Rattle.extension.proofs.Answers.{extension-undone}
 use Rattle.a_record.proofs.Answers.{a-undone}
-use Rattle.b_record.proofs.Answers.{b-undone}
+use Rattle.b_record.proofs.Answers.{fix-undone, b-undone}
 use Rattle.c_record.proofs.Answers.{declaration-undone, turnpoint-undone}
 use Rattle.h_record.proofs.Answers.{h-undone}
 use Rattle.records.proofs.Answers.{reading-undone}
@@ -32,6 +32,7 @@ determined = record {
   position = tells _ _ _ position-undone;
   extension = tells _ _ _ extension-undone;
   a = tells _ _ _ a-undone;
+  fix = tells _ _ _ fix-undone;
   b = tells _ _ _ b-undone;
   declaration = tells _ _ _ declaration-undone;
   turnpoint = tells _ _ _ turnpoint-undone;

@@ -9,7 +9,7 @@ use lib.Seq.{take-all}
 use Rattle.text.specs.Res.{pick, _≤?_, _∧?_}
 use Rattle.part.specs.Part.{bytesOf}
 use Rattle.text.proofs.Steps.{second, no≤, is≤, isnt≤, fails}
-use Rattle.print.specs.Put.{largest}
+use Rattle.put.specs.Put.{largest}
 use Rattle.records.specs.Record.{readLine}
 use Rattle.log.specs.Line.{cutAt}
 use Rattle.log.specs.Log.{chunks, readFrom, readings}

@@ -9,7 +9,7 @@ use Rattle.text.specs.Res.{Res}
 use Rattle.text.specs.Number.{u8Res, u16Res, i8Res, i16Res}
 use Rattle.part.specs.Part.{foundRes, Shows}
 use Rattle.part.specs.declared.Part.{Part}
-use Rattle.print.specs.Put.{Wrote}
+use Rattle.put.specs.Put.{Wrote}
 use Rattle.print.specs.Print.{Prints}
 use Rattle.print.specs.declared.printed.Printed.{Printed}
 use Rattle.datetime.specs.Time.{timeRes}
@@ -17,7 +17,7 @@ use Rattle.datetime.specs.Date.{dateRes}
 use Rattle.coord.specs.Coord.{latitudeRes, longitudeRes, positionRes}
 use Rattle.extension.specs.Extension.{extensionRes}
 use Rattle.a_record.specs.ARecord.{aRes}
-use Rattle.b_record.specs.BRecord.{bRes}
+use Rattle.b_record.specs.BRecord.{fixRes, bRes}
 use Rattle.c_record.specs.CRecord.{declarationRes, turnpointRes}
 use Rattle.h_record.specs.HRecord.{hRes}
 use Rattle.records.specs.Record.{readingRes}
@@ -39,6 +39,7 @@ pub record Determined : Type 1 where
   pub position : Tells positionRes
   pub extension : Tells extensionRes
   pub a : Tells aRes
+  pub fix : Tells fixRes
   pub b : Tells bRes
   pub declaration : Tells declarationRes
   pub turnpoint : Tells turnpointRes

@@ -6,6 +6,7 @@ ghost use Rattle.table.specs.Table.{readTable};
 ghost use Rattle.records.specs.Record.{kindOf, readC, readLine, recordText, recordBook, acceptedAs, answerOf, readingRes};
 use a_record::ARead;
 use a_record::ARecord;
+use b_quick::parse_fix;
 use b_record::BRead;
 use b_record::BRecord;
 use c_record::CRecordDeclaration;
@@ -112,7 +113,7 @@ impl Record {
                 ARead::Ok(a) => Reading::Accepted(Record::A(a)),
                 ARead::Refused(no_a) => Reading::Refused(no_a),
             },
-            Kind::B => match BRecord::parse(line) {
+            Kind::B => match parse_fix(line) {
                 BRead::Ok(b) => Reading::Accepted(Record::B(b)),
                 BRead::Refused(no_b) => Reading::Refused(no_b),
             },

@@ -15,8 +15,8 @@ use Rattle.text.specs.declared.refusal.Refusal.{Refusal}
 use Rattle.text.proofs.Steps.{off}
 use Rattle.text.proofs.Lines.{cut-rest}
 use Rattle.field.specs.Field.{cut, columns}
-use Rattle.print.specs.Put.{Wrote}
-use Rattle.print.proofs.Writing.{then}
+use Rattle.put.specs.Put.{Wrote}
+use Rattle.put.proofs.Writing.{then}
 use Rattle.extension.specs.Extension.{readExtension, extensionText}
 use Rattle.table.specs.Table.{empty, tableOf, readDefs, defsText, tableRead}
 use Rattle.extension.specs.declared.Extension.{Extension}

@@ -6,7 +6,7 @@ use native.Mathlib.Omega.{arith}
 use lib.ListN.{length, drop}
 use Rattle.part.specs.Part.{bytesOf, findPart, shown}
 use Rattle.part.specs.declared.Part.{Part}
-use Rattle.print.specs.Put.{largest}
+use Rattle.put.specs.Put.{largest}
 use Rattle.records.specs.Record.{readLine, readingRes}
 use Rattle.records.specs.declared.Reading.{Reading}
 use Rattle.log.specs.Line.{cutAt}

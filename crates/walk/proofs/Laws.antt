@@ -9,7 +9,7 @@ use Rattle.text.specs.Res.{Res, ok, no, pick, _≤?_, _∧?_}
 use Rattle.part.specs.Part.{bytesOf, findPart, shown}
 use Rattle.text.proofs.Steps.{first, yes≤, is≤, and, both}
 use Rattle.part.proofs.Parts.{shown-found}
-use Rattle.print.specs.Put.{largest}
+use Rattle.put.specs.Put.{largest}
 use Rattle.records.specs.Record.{readLine, readingRes}
 use Rattle.records.specs.declared.Record.{Record}
 use Rattle.records.specs.declared.Reading.{Reading}

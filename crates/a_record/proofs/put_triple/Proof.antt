@@ -1,7 +1,7 @@
 use borrow.Author.Needs.{needs}
 use mathlib.Core.Path.{_≡_, sym, _∙_}
 use native.Mathlib.Omega.{arith}
-use Rattle.print.proofs.Writing.{nothing}
+use Rattle.put.proofs.Writing.{nothing}
 use Rattle.manufacturer.specs.Maker.{tripleOf}
 use Rattle.manufacturer.specs.declared.MaybeTriple.the-variants.{Missing, Triple}
 use Rattle.a_record.specs.ARecord.{tripleText}

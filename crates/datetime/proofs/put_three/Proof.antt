@@ -1,5 +1,5 @@
 use borrow.Author.Needs.{needs}
-use Rattle.print.proofs.Writing.{then}
+use Rattle.put.proofs.Writing.{then}
 use Rattle.datetime.specs.Three.{threeText}
 use Rattle.datetime.proofs.put_three.Statement.{statement}
 use Rattle.datetime.proofs.put_three.Tie as tie

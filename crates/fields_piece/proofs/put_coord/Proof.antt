@@ -1,5 +1,5 @@
 use borrow.Author.Needs.{needs}
-use Rattle.print.proofs.Writing.{then}
+use Rattle.put.proofs.Writing.{then}
 use Rattle.fields_piece.specs.Piece.{coordShown}
 use Rattle.fields_piece.proofs.put_coord.Statement.{statement}
 use Rattle.fields_piece.proofs.put_coord.Tie as tie

@@ -1,5 +1,5 @@
 use borrow.Author.Needs.{needs}
-use Rattle.print.proofs.Writing.{then}
+use Rattle.put.proofs.Writing.{then}
 use Rattle.listing_text.specs.Line.{plain}
 use Rattle.fields_piece.specs.Piece.{partText}
 use Rattle.fields_piece.proofs.put_place.Statement.{statement}

@@ -1,6 +1,6 @@
 use borrow.Author.Needs.{needs}
 use mir.Facts.{toZ-ofZ}
-use Rattle.print.proofs.Writing.{then}
+use Rattle.put.proofs.Writing.{then}
 use Rattle.fields_piece.specs.Piece.{signedNumber}
 use Rattle.fields_piece.proofs.put_signed.Statement.{statement}
 use Rattle.fields_piece.proofs.put_signed.Tie as tie

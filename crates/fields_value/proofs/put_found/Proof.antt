@@ -1,5 +1,5 @@
 use borrow.Author.Needs.{needs}
-use Rattle.print.proofs.Writing.{then}
+use Rattle.put.proofs.Writing.{then}
 use Rattle.listing_text.specs.Line.{plain}
 use Rattle.fields_value.specs.Value.{foundText}
 use Rattle.fields_value.proofs.put_found.Statement.{statement}

@@ -1,5 +1,5 @@
 use borrow.Author.Needs.{needs}
-use Rattle.print.proofs.Writing.{then}
+use Rattle.put.proofs.Writing.{then}
 use Rattle.fields_value.specs.Value.{valueShown}
 use Rattle.fields_value.proofs.put_value.Statement.{statement}
 use Rattle.fields_value.proofs.put_value.Tie as tie

@@ -7,8 +7,8 @@ use lib.ListN.{take}
 use lib.Seq.{take-all}
 use denote.Ref.{now}
 use Rattle.part.specs.declared.Part.{Part}
-use Rattle.print.specs.Put.{Wrote}
-use Rattle.print.proofs.Writing.{kept, nothing}
+use Rattle.put.specs.Put.{Wrote}
+use Rattle.put.proofs.Writing.{kept, nothing}
 use Rattle.held.specs.declared.Held.{Held}
 use Rattle.fields_value.specs.Value.{valueShown, askedFor, valuesShown}
 use Rattle.fields_value.proofs.Rows.{Row, in-turn}

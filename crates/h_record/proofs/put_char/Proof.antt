@@ -3,7 +3,7 @@ use mathlib.Core.Path.{_≡_}
 use mathlib.Core.Bool.{true, false}
 use Rattle.text.specs.Res.{pick, _≤?_}
 use Rattle.text.proofs.Steps.{yes≤, no≤}
-use Rattle.print.proofs.Writing.{then}
+use Rattle.put.proofs.Writing.{then}
 use Rattle.h_record.specs.HRecord.{charText}
 use Rattle.h_record.proofs.put_char.Statement.{statement}
 use Rattle.h_record.proofs.put_char.Tie as tie

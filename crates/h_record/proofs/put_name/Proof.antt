@@ -3,7 +3,7 @@ use mathlib.Core.Path.{_≡_}
 use native.Mathlib.Omega.{arith}
 use Rattle.part.specs.Part.{findMaybe}
 use Rattle.part.specs.declared.MaybePart.the-variants.{At}
-use Rattle.print.proofs.Writing.{then, nothing}
+use Rattle.put.proofs.Writing.{then, nothing}
 use Rattle.h_record.specs.HRecord.{nameText}
 use Rattle.h_record.proofs.put_name.Statement.{statement}
 use Rattle.h_record.proofs.put_name.Tie as tie

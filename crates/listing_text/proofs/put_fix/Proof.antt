@@ -2,7 +2,7 @@ use borrow.Author.Needs.{needs}
 use mir.Syntax.{w16}
 use mir.Val.{SFits}
 use mir.Facts.{toZ-ofZ}
-use Rattle.print.proofs.Writing.{then}
+use Rattle.put.proofs.Writing.{then}
 use Rattle.b_record.specs.declared.BRecord.{BRecord}
 use Rattle.listing_text.specs.Line.{fixHeights}
 use Rattle.listing_text.proofs.put_fix.Statement.{statement}

@@ -4,8 +4,8 @@ use mathlib.Core.List.{[]}
 use native.Mathlib.Omega.{arith}
 use denote.Ref.{now}
 use Rattle.text.specs.Res.{ok}
-use Rattle.print.specs.Put.{Wrote}
-use Rattle.print.proofs.Writing.{nothing}
+use Rattle.put.specs.Put.{Wrote}
+use Rattle.put.proofs.Writing.{nothing}
 use Rattle.records.specs.Record.{readingRes}
 use Rattle.records.specs.declared.Record.{Record}
 use Rattle.listing_text.specs.Line.{heightsText}

@@ -1,5 +1,5 @@
 use borrow.Author.Needs.{needs}
-use Rattle.print.proofs.Writing.{then}
+use Rattle.put.proofs.Writing.{then}
 use Rattle.a_record.specs.ARecord.{aBody}
 use Rattle.a_record.proofs.ARecord.put.Statement.{statement}
 use Rattle.a_record.proofs.ARecord.put.Tie as tie

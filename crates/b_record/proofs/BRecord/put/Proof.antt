@@ -1,5 +1,5 @@
 use borrow.Author.Needs.{needs}
-use Rattle.print.proofs.Writing.{then}
+use Rattle.put.proofs.Writing.{then}
 use Rattle.b_record.specs.BRecord.{bBody}
 use Rattle.b_record.proofs.BRecord.put.Statement.{statement}
 use Rattle.b_record.proofs.BRecord.put.Tie as tie

@@ -2,7 +2,7 @@ use borrow.Author.Needs.{needs}
 use mathlib.Core.Path.{_≡_}
 use mir.Syntax.{w8}
 use mir.Val.{toZ, ofZ}
-use Rattle.print.proofs.Writing.{then}
+use Rattle.put.proofs.Writing.{then}
 use Rattle.c_record.specs.CRecord.{taskText}
 use Rattle.c_record.specs.declared.CRecordDeclaration.{CRecordDeclaration}
 use Rattle.c_record.proofs.CRecordDeclaration.put_task.Statement.{statement}

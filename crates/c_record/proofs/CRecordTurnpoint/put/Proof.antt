@@ -1,5 +1,5 @@
 use borrow.Author.Needs.{needs}
-use Rattle.print.proofs.Writing.{then}
+use Rattle.put.proofs.Writing.{then}
 use Rattle.c_record.specs.CRecord.{turnpointBody}
 use Rattle.c_record.proofs.CRecordTurnpoint.put.Statement.{statement}
 use Rattle.c_record.proofs.CRecordTurnpoint.put.Tie as tie

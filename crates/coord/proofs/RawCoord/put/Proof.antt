@@ -1,5 +1,5 @@
 use borrow.Author.Needs.{needs}
-use Rattle.print.proofs.Writing.{then}
+use Rattle.put.proofs.Writing.{then}
 use Rattle.coord.specs.Coord.{coordText}
 use Rattle.coord.proofs.RawCoord.put.Statement.{statement}
 use Rattle.coord.proofs.RawCoord.put.Tie as tie

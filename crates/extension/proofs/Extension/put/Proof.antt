@@ -1,5 +1,5 @@
 use borrow.Author.Needs.{needs}
-use Rattle.print.proofs.Writing.{then}
+use Rattle.put.proofs.Writing.{then}
 use Rattle.extension.specs.Extension.{extensionText}
 use Rattle.extension.proofs.Extension.put.Statement.{statement}
 use Rattle.extension.proofs.Extension.put.Tie as tie

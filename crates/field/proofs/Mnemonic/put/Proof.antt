@@ -1,5 +1,5 @@
 use borrow.Author.Needs.{needs}
-use Rattle.print.proofs.Writing.{then}
+use Rattle.put.proofs.Writing.{then}
 use Rattle.field.specs.Field.{mnemonicText}
 use Rattle.field.proofs.Mnemonic.put.Statement.{statement}
 use Rattle.field.proofs.Mnemonic.put.Tie as tie

@@ -5,7 +5,7 @@ use mathlib.Core.List.{[]}
 use native.Mathlib.Omega.{arith}
 use Rattle.text.specs.Res.{_=?_}
 use Rattle.text.proofs.Steps.{first, second, yes=, no=}
-use Rattle.print.proofs.Writing.{nothing}
+use Rattle.put.proofs.Writing.{nothing}
 use Rattle.records.specs.Record.{acceptedAs}
 use Rattle.fields_piece.specs.Piece.{byteShown}
 use Rattle.fields_text.specs.Line.{bookShown}

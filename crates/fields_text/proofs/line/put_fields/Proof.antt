@@ -1,6 +1,6 @@
 use borrow.Author.Needs.{needs}
 use native.Mathlib.Omega.{arith}
-use Rattle.print.proofs.Writing.{nothing}
+use Rattle.put.proofs.Writing.{nothing}
 use Rattle.fields_text.specs.Line.{fieldsShown}
 use Rattle.fields_text.proofs.line.put_fields.Statement.{statement}
 use Rattle.fields_text.proofs.line.put_fields.Tie as tie

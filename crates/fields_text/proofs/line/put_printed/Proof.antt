@@ -1,5 +1,5 @@
 use borrow.Author.Needs.{needs}
-use Rattle.print.proofs.Writing.{then}
+use Rattle.put.proofs.Writing.{then}
 use Rattle.fields_text.specs.Line.{printedShown}
 use Rattle.fields_text.proofs.line.put_printed.Statement.{statement}
 use Rattle.fields_text.proofs.line.put_printed.Tie as tie

@@ -4,8 +4,8 @@ use mathlib.Core.Path.{_≡_, refl}
 use native.Mathlib.Omega.{arith}
 use lib.ListN.{length, take}
 use lib.Seq.{take-all}
-use Rattle.print.specs.Put.{Wrote}
-use Rattle.print.proofs.Writing.{kept, nothing}
+use Rattle.put.specs.Put.{Wrote}
+use Rattle.put.proofs.Writing.{kept, nothing}
 use Rattle.table.specs.Table.{defsOf}
 use Rattle.table.proofs.Defs.{long-under}
 use Rattle.fields_text.specs.Record.{definitionShown, definitionsShown}

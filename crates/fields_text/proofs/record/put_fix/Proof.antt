@@ -2,7 +2,7 @@ use borrow.Author.Needs.{needs}
 use mir.Syntax.{w16}
 use mir.Val.{SFits}
 use mir.Facts.{toZ-ofZ}
-use Rattle.print.proofs.Writing.{then}
+use Rattle.put.proofs.Writing.{then}
 use Rattle.b_record.specs.declared.BRecord.{BRecord}
 use Rattle.fields_text.specs.Record.{fixShown}
 use Rattle.fields_text.proofs.record.put_fix.Statement.{statement}

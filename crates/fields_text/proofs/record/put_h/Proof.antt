@@ -1,5 +1,5 @@
 use borrow.Author.Needs.{needs}
-use Rattle.print.proofs.Writing.{then}
+use Rattle.put.proofs.Writing.{then}
 use Rattle.fields_text.specs.Record.{hShown}
 use Rattle.fields_text.proofs.record.put_h.Statement.{statement}
 use Rattle.fields_text.proofs.record.put_h.Tie as tie

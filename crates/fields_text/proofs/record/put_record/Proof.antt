@@ -1,6 +1,6 @@
 use borrow.Author.Needs.{needs}
 use native.Mathlib.Omega.{arith}
-use Rattle.print.proofs.Writing.{nothing}
+use Rattle.put.proofs.Writing.{nothing}
 use Rattle.fields_text.specs.Record.{recordShown}
 use Rattle.fields_text.proofs.record.put_record.Statement.{statement}
 use Rattle.fields_text.proofs.record.put_record.Tie as tie

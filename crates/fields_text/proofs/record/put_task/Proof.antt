@@ -2,7 +2,7 @@ use borrow.Author.Needs.{needs}
 use mir.Syntax.{w8}
 use mir.Val.{SFits}
 use mir.Facts.{toZ-ofZ}
-use Rattle.print.proofs.Writing.{then}
+use Rattle.put.proofs.Writing.{then}
 use Rattle.c_record.specs.declared.CRecordDeclaration.{CRecordDeclaration}
 use Rattle.fields_text.specs.Record.{taskShown}
 use Rattle.fields_text.proofs.record.put_task.Statement.{statement}

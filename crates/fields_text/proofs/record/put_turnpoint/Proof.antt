@@ -1,5 +1,5 @@
 use borrow.Author.Needs.{needs}
-use Rattle.print.proofs.Writing.{then}
+use Rattle.put.proofs.Writing.{then}
 use Rattle.fields_text.specs.Record.{turnpointShown}
 use Rattle.fields_text.proofs.record.put_turnpoint.Statement.{statement}
 use Rattle.fields_text.proofs.record.put_turnpoint.Tie as tie

@@ -1,5 +1,5 @@
 use borrow.Author.Needs.{needs}
-use Rattle.print.proofs.Writing.{then}
+use Rattle.put.proofs.Writing.{then}
 use Rattle.h_record.specs.HRecord.{hBody}
 use Rattle.h_record.proofs.HRecord.put.Statement.{statement}
 use Rattle.h_record.proofs.HRecord.put.Tie as tie

@@ -4,7 +4,7 @@ use mathlib.Core.Path.{ap}
 use native.Mathlib.Omega.{arith}
 use lib.ListN.{length}
 use denote.Ref.{now}
-use Rattle.print.proofs.Writing.{kept}
+use Rattle.put.proofs.Writing.{kept}
 use Rattle.log.specs.declared.Cut.{Cut}
 use Rattle.log.proofs.Cuts.{next-gt, next-le}
 use Rattle.listing_text.proofs.Left.{Left, left-all, left-none, left-line}

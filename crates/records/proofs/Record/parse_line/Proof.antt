@@ -55,16 +55,16 @@ no-a : (c : tie.After-no-a) → no (c .no-a .given .0 .0) ≡ readA (line (searc
 no-a c = came aRes (c .no-a .given .1) (c .before .before .parse .ensures)
 
 b : (c : tie.After-b) → ok (c .b .given .0 .0) ≡ readB (line (search needs))
-b c = came bRes (c .b .given .1) (c .before .before .parse2 .ensures)
+b c = came bRes (c .b .given .1) (c .before .before .parse-fix .ensures)
 
 no-b : (c : tie.After-no-b) → no (c .no-b .given .0 .0) ≡ readB (line (search needs))
-no-b c = came bRes (c .no-b .given .1) (c .before .before .parse2 .ensures)
+no-b c = came bRes (c .no-b .given .1) (c .before .before .parse-fix .ensures)
 
 h : (c : tie.After-h) → ok (c .h .given .0 .0) ≡ readH (line (search needs))
-h c = came hRes (c .h .given .1) (c .before .before .parse3 .ensures)
+h c = came hRes (c .h .given .1) (c .before .before .parse2 .ensures)
 
 no-h : (c : tie.After-no-h) → no (c .no-h .given .0 .0) ≡ readH (line (search needs))
-no-h c = came hRes (c .no-h .given .1) (c .before .before .parse3 .ensures)
+no-h c = came hRes (c .no-h .given .1) (c .before .before .parse2 .ensures)
 
 pub parse-line-spec : {M : Type 1} → statement M
 unfolding readLine readKind whole

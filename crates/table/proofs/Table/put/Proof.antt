@@ -1,5 +1,5 @@
 use borrow.Author.Needs.{needs}
-use Rattle.print.proofs.Writing.{then}
+use Rattle.put.proofs.Writing.{then}
 use Rattle.table.specs.Table.{tableBody}
 use Rattle.table.proofs.Table.put.Statement.{statement}
 use Rattle.table.proofs.Table.put.Tie as tie

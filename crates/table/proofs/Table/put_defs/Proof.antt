@@ -3,8 +3,8 @@ use mathlib.Core.Path.{_≡_}
 use native.Mathlib.Omega.{arith}
 use lib.ListN.{length, take}
 use borrow.Author.Needs.{needs}
-use Rattle.print.specs.Put.{Wrote}
-use Rattle.print.proofs.Writing.{kept, nothing}
+use Rattle.put.specs.Put.{Wrote}
+use Rattle.put.proofs.Writing.{kept, nothing}
 use Rattle.table.specs.Table.{defsText, defsOf}
 use Rattle.table.proofs.Defs.{defs-then, defs-counted, long-under}
 use Rattle.table.proofs.Table.put_defs.Statement.{statement}

@@ -1,5 +1,5 @@
 use borrow.Author.Needs.{needs}
-use Rattle.print.proofs.Writing.{then}
+use Rattle.put.proofs.Writing.{then}
 use Rattle.coord.specs.Coord.{positionText}
 use Rattle.coord.proofs.position.RawPosition.put.Statement.{statement}
 use Rattle.coord.proofs.position.RawPosition.put.Tie as tie

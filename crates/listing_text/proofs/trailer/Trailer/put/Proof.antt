@@ -1,5 +1,5 @@
 use borrow.Author.Needs.{needs}
-use Rattle.print.proofs.Writing.{then}
+use Rattle.put.proofs.Writing.{then}
 use Rattle.listing_text.specs.Trailer.{trailerText}
 use Rattle.listing_text.proofs.trailer.Trailer.put.Statement.{statement}
 use Rattle.listing_text.proofs.trailer.Trailer.put.Tie as tie

@@ -1,0 +1,10 @@
+-- A signed number as the code takes it apart.
+use Prim.Native.Nat.{suc}
+use lib.IntN.{ℤ, pos, negsuc}
+use Rattle.print.specs.declared.number.Signed.{Signed}
+use Rattle.print.specs.declared.number.Signed.the-variants.{Plus, Minus}
+
+-- A number by its sign and its distance from 0.
+abbrev pub splitOf : ℤ → Signed
+splitOf (pos n) = Plus n
+splitOf (negsuc n) = Minus (suc n)
