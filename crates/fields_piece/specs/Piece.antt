@@ -2,7 +2,7 @@
 use Prim.Native.Nat.{ℕ}
 use mathlib.Core.List.{List, [], _∷_, _++_}
 use lib.IntN.{ℤ}
-use Rattle.text.specs.Number.{signed}
+use Rattle.text.specs.Number.{padded, signed}
 use Rattle.part.specs.declared.Part.{Part}
 use Rattle.part.specs.declared.MaybePart.{MaybePart}
 use Rattle.part.specs.declared.MaybePart.the-variants as maybe
@@ -18,10 +18,9 @@ use Rattle.manufacturer.specs.declared.MaybeTriple.{MaybeTriple}
 use Rattle.manufacturer.specs.declared.MaybeTriple.the-variants as triple
 use Rattle.c_record.specs.declared.MaybeDate.{MaybeDate}
 use Rattle.c_record.specs.declared.MaybeDate.the-variants as date
-use Rattle.listing_text.specs.Line.{plain}
 
 unfoldable pub number : ℕ → List ℕ
-number n = (32 ∷ []) ++ plain n
+number n = (32 ∷ []) ++ padded 1 n
 
 unfoldable pub signedNumber : ℤ → List ℕ
 signedNumber z = (32 ∷ []) ++ signed 1 z
@@ -32,7 +31,7 @@ byteShown b = (32 ∷ []) ++ (b ∷ [])
 
 -- START+LEN, counted from the line's start.
 unfoldable pub partText : Part → List ℕ
-partText p = plain (p .start) ++ ((43 ∷ []) ++ plain (p .len))
+partText p = padded 1 (p .start) ++ ((43 ∷ []) ++ padded 1 (p .len))
 
 unfoldable pub partShown : Part → List ℕ
 partShown p = (32 ∷ []) ++ partText p
@@ -44,7 +43,7 @@ maybeShown (maybe.At p) = partShown p
 
 -- Numbers parted by a mark.
 unfoldable pub two : ℕ → ℕ → ℕ → List ℕ
-two mark b c = (mark ∷ []) ++ (plain b ++ ((mark ∷ []) ++ plain c))
+two mark b c = (mark ∷ []) ++ (padded 1 b ++ ((mark ∷ []) ++ padded 1 c))
 
 unfoldable pub three : ℕ → ℕ → ℕ → ℕ → List ℕ
 three mark a b c = number a ++ two mark b c

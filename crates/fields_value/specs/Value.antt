@@ -3,6 +3,7 @@ use Prim.Native.Nat.{ℕ}
 use mathlib.Core.List.{List, [], _∷_, _++_}
 use lib.ListN.{length}
 use Rattle.text.specs.Res.{Res, ok, no, pick, numberOf, _≤?_}
+use Rattle.text.specs.Number.{padded}
 use Rattle.part.specs.declared.Part.{Part}
 use Rattle.field.specs.Field.{mnemonicText}
 use Rattle.field.specs.declared.Mnemonic.{Mnemonic}
@@ -10,13 +11,12 @@ use Rattle.table.specs.Table.{defsOf}
 use Rattle.extension.specs.declared.Extension.{Extension}
 use Rattle.held.specs.Held.{isSet, lookUp}
 use Rattle.held.specs.declared.Held.{Held}
-use Rattle.listing_text.specs.Line.{plain}
 use Rattle.fields_piece.specs.Piece.{partText}
 
 -- The answer 0 with `@` and the value's place behind it, or the refusal's number.
 unfoldable pub foundText : Res Part → List ℕ
 foundText (ok p) = (48 ∷ []) ++ ((64 ∷ []) ++ partText p)
-foundText (no n) = plain (numberOf n)
+foundText (no n) = padded 1 (numberOf n)
 
 -- NAME=ANSWER, by lookup by name on a line with 35 fixed columns and this rest.
 unfoldable pub valueShown : Held → Part → List ℕ → Mnemonic → List ℕ

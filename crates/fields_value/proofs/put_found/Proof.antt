@@ -1,6 +1,5 @@
 use borrow.Author.Needs.{needs}
 use Rattle.put.proofs.Writing.{then}
-use Rattle.listing_text.specs.Line.{plain}
 use Rattle.fields_value.specs.Value.{foundText}
 use Rattle.fields_value.proofs.put_found.Statement.{statement}
 use Rattle.fields_value.proofs.put_found.Tie as tie
@@ -10,7 +9,7 @@ unfolding foundText
 at c = let e : tie.After-found = search needs in rw (e .found .given .1) (search (then))
 
 refused : tie.Need-returns-2
-unfolding foundText plain
+unfolding foundText
 refused c =
     let e : tie.After-found2 = search needs in
     let n : tie.After-number = search needs in
