@@ -1,11 +1,11 @@
 use borrow.Author.Needs.{needs}
 use mathlib.Core.Path.{refl, sym}
 use native.Mathlib.Omega.{arith}
 use Rattle.text.specs.Res.{_=?_}
 use Rattle.text.proofs.Steps.{fails, holds, yes≤, no≤}
-use Rattle.held.specs.Held.{begins}
-use Rattle.held.proofs.begins.Statement.{statement}
-use Rattle.held.proofs.begins.Tie as tie
+use Rattle.text.specs.Line.{begins}
+use Rattle.text.proofs.line.begins.Statement.{statement}
+use Rattle.text.proofs.line.begins.Tie as tie
 
 pub begins-spec : {M : Type 1} → statement M
 unfolding begins _=?_
