@@ -1,5 +1,5 @@
-// Every text of up to three bytes, read as a number of each type, in two running sums of what came of it. The Rust's own
-// `str::parse` gives the same sums (oracle/numbers); what this writes is held to them in ../stdout.
+// Every text of up to three bytes, read as a number of each type, in two running sums of what came of it. The Rust's
+// own `str::parse` gives the same sums (oracle/numbers); what this writes is held to them in ../stdout.
 use print::number::put_i8;
 use print::number::put_i16;
 use print::number::put_nat;

@@ -1,8 +1,8 @@
 use Prim.Native.Nat.{_-_}
 use native.Mathlib.Omega.{arith}
 use borrow.Author.Needs.{needs}
-use Rattle.degrees.proofs.all_degrees.Statement.{statement}
-use Rattle.degrees.proofs.all_degrees.Tie as tie
+use Rattle.gate_degrees.proofs.all_degrees.Statement.{statement}
+use Rattle.gate_degrees.proofs.all_degrees.Tie as tie
 
 abbrev Inv-loop : tie.InvT-loop
 Inv-loop row sign sums₀ degrees₀ sums degrees = Unit

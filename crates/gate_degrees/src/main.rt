@@ -1,5 +1,5 @@
-// Every coordinate of 0 to 180 degrees and 0 to 60000 thousandths as a float, in two running sums of the bits. The Rust's own
-// conversions give the same sums (oracle/floats); what this writes is held to them in ../stdout.
+// Every coordinate of 0 to 180 degrees and 0 to 60000 thousandths as a float, in two running sums of the bits. The
+// Rust's own conversions give the same sums (oracle/floats); what this writes is held to them in ../stdout.
 use coord::Compass;
 use coord::RawCoord;
 use coord::RawLatitude;

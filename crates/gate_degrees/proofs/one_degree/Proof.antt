@@ -1,15 +1,15 @@
 use Prim.Native.Nat.{_-_}
 use native.Mathlib.Omega.{arith}
 use borrow.Author.Needs.{needs}
-use Rattle.numbers.proofs.all.Statement.{statement}
-use Rattle.numbers.proofs.all.Tie as tie
+use Rattle.gate_degrees.proofs.one_degree.Statement.{statement}
+use Rattle.gate_degrees.proofs.one_degree.Tie as tie
 
 abbrev Inv-loop : tie.InvT-loop
-Inv-loop row width end a₀ b₀ n₀ a b n = Unit
+Inv-loop row degrees sign a₀ b₀ t₀ a b t = Unit
 
 abbrev μ-loop : tie.MeasureT-loop
-μ-loop row width end a₀ b₀ n₀ a b n = end - n
+μ-loop row degrees sign a₀ b₀ t₀ a b t = 60001 - t
 
-pub all-spec : {M : Type 1} → statement M
-all-spec =
+pub one-degree-spec : {M : Type 1} → statement M
+one-degree-spec =
     tie.close (tie.spec Inv-loop μ-loop (λ c. tt) (search needs) (search needs) (search needs) (λ c. omega arith) (λ c. omega arith) (λ c. tt) (search needs))

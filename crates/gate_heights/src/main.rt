@@ -1,5 +1,5 @@
-// The peers' lesson: a fix whose two heights differ, by every path on which a height leaves the reader. Once two readers took the two
-// columns the other way round, and a published gain had to be struck out.
+// The peers' lesson: a fix whose two heights differ, by every path on which a height leaves the reader. Once two
+// readers took the two columns the other way round, and a published gain had to be struck out.
 use b_record::BRead;
 use b_record::BRecord;
 use fields_text::line::put_line;
@@ -7,6 +7,7 @@ use held::Held;
 use listing_text::listing::print_listing;
 use print::number::put_i16;
 use print::printed::Printed;
+use records::Record;
 
 fn say(text: &[u8], n: usize) {
     if n <= text.len() {
@@ -54,7 +55,15 @@ fn listing(line: &[u8]) {
 
 fn fields(line: &[u8]) {
     let mut text = [0u8; 256];
-    let n = put_line(1, line, Held::new(), b"", line, &mut text, 0);
+    let n = put_line(
+        1,
+        line,
+        Record::parse_line(line),
+        Held::new(),
+        b"",
+        &mut text,
+        0,
+    );
     io::write_all(1, b"fields: ");
     say(&text, n);
 }

@@ -1,4 +1,5 @@
-// The readings of document 01 that are run and not proved, each with its answer number. What this writes is held to ../stdout.
+// The readings of document 01 that are run and not proved, each with its answer number. What this writes is held to
+// ../stdout.
 mod fields;
 mod lines;
 mod numbers;
