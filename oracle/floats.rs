@@ -1,5 +1,5 @@
 // The Rust's own conversions, unchanged, over every degree 0 to 180 and thousandth 0 to 60000: two running sums of the bits.
-// The proved program crates/degrees works out the same sums.
+// The proved program crates/gate_degrees works out the same sums.
 mod util {
     // coord.rs names this type of the crate's; its readers are not called here.
     pub enum ParseError {

@@ -1,4 +1,4 @@
-// The sums that crates/numbers works out, by the standard library's own parsing. A text that is not UTF-8 counts as refused.
+// The sums that crates/gate_numbers works out, by the standard library's own parsing. A text that is not UTF-8 counts as refused.
 fn code(read: Option<i64>) -> u64 {
     let text = match read {
         Some(v) => format!("{:06}", v).into_bytes(),

@@ -1,4 +1,4 @@
-//! The reader of this repository, as crates/timed exports it: a slice arrives as a pointer and a length.
+//! The reader of this repository, as crates/bench_loops exports it: a slice arrives as a pointer and a length.
 extern "C" {
     fn timed_read(log: *const u8, len: usize) -> u64;
     fn timed_step(log: *const u8, len: usize) -> u64;

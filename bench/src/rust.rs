@@ -1,4 +1,4 @@
-//! The same work by igc-rs: the sums are those of crates/timed, so that neither side can leave a reading out.
+//! The same work by igc-rs: the sums are those of crates/bench_loops, so that neither side can leave a reading out.
 use igc::parse::parse_records;
 use igc::records::{BRecord, Extendable, IRecord, Record};
 use std::fmt::Write;

@@ -4,13 +4,13 @@ use mathlib.Core.List.{List, [], _∷_, _++_}
 use mathlib.Core.Bool.{Bool}
 use lib.ListN.{length}
 use Rattle.text.specs.Res.{Res, ok, no, bind, guard, pick, _≤?_, _∧?_}
-use Rattle.text.specs.Line.{byte}
+use Rattle.text.specs.Line.{byte, cut}
 use Rattle.part.specs.Part.{nameFrom, partText, maybeText}
 use Rattle.text.specs.Number.{allDigits}
 use Rattle.text.specs.declared.refusal.Refusal.the-variants.{Syntax, NotAscii}
 use Rattle.part.specs.declared.Part.{Part}
 use Rattle.part.specs.declared.MaybePart.{MaybePart}
-use Rattle.field.specs.Field.{cut, asciiIn, mnemonicText}
+use Rattle.field.specs.Field.{asciiIn, mnemonicText}
 use Rattle.field.specs.declared.Mnemonic.{Mnemonic}
 use Rattle.manufacturer.specs.Maker.{letterMaker, tripleMaker, tripleOf}
 use Rattle.manufacturer.specs.declared.Manufacturer.{Manufacturer}

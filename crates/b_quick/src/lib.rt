@@ -1,14 +1,15 @@
-// B lines whose numbers are plain digits, as nearly all are: tested in blocks and read without a test at each byte. Where this way
-// says no, nothing is said, and `BRecord::parse` decides.
+// B lines whose numbers are plain digits, as nearly all are: tested in blocks and read without a test at each byte.
+// Where this way says no, nothing is said, and `BRecord::parse` decides.
 ghost use mathlib.Core.Path.{_≡_};
 ghost use mathlib.Core.Bool.{true};
 ghost use Prim.Native.Nat.{_≤_};
 ghost use lib.ListN.{length};
+ghost use Rattle.text.specs.Res.{pick};
 ghost use Rattle.text.specs.Number.{allDigits, valueFrom};
 ghost use Rattle.field.specs.Field.{isAscii};
-ghost use Rattle.b_record.specs.BRecord.{readFix, readB, bRes};
-ghost use Rattle.b_quick.specs.Quick.{plainDigits, Sure};
-use b_record::BRead;
+ghost use Rattle.b_record.specs.BRecord.{readFix};
+ghost use Rattle.b_quick.specs.Quick.{plainDigits, fixRead, quickOf};
+ghost use Rattle.b_quick.specs.declared.Quick.the-variants.{No};
 use b_record::BRecord;
 use b_record::FixRead;
 use b_record::FixValid;
@@ -25,12 +26,13 @@ use field::all_digits;
 use field::is_ascii;
 use part::Part;
 
-enum Quick {
+pub enum Quick {
     Fix(BRecord),
     No,
 }
 
-// Every column of a number is a digit. Blocks of eight columns, some of them twice: the compiler makes one test of each block.
+// Every column of a number is a digit. Blocks of eight columns, some of them twice: the compiler makes one test of each
+// block.
 fn plain(line: &[u8]) -> bool
     requires { ⌜ 35 ≤ length (now line) ⌝ }
     ensures { λ r. ⌜ r ≡ plainDigits (now (line .entry)) ⌝ }
@@ -64,9 +66,10 @@ fn value(digits: &[u8]) -> u32
     v
 }
 
-fn quick_fix(line: &[u8]) -> Quick
+// What `quick_fix` says of a line that is long enough and ASCII.
+fn plain_fix(line: &[u8]) -> Quick
     requires { ⌜ (35 ≤ length (now line)) × (isAscii (now line) ≡ true) ⌝ }
-    ensures { λ r. ⌜ Sure r (readFix (now (line .entry))) ⌝ }
+    ensures { λ r. ⌜ r ≡ pick (plainDigits (now (line .entry))) (fixRead (readFix (now (line .entry)))) No ⌝ }
 {
     if !plain(line) {
         return Quick::No;
@@ -120,18 +123,16 @@ fn quick_fix(line: &[u8]) -> Quick
     }
 }
 
-// A B line, as `BRecord::parse` reads it.
-pub fn parse_fix(line: &[u8]) -> BRead
-    ensures { λ r. ⌜ bRes r ≡ readB (now (line .entry)) ⌝ }
+// A fix of plain digits, read without a test at each byte; No where that way says nothing, and `BRecord::parse`
+// decides.
+pub fn quick_fix(line: &[u8]) -> Quick
+    ensures { λ r. ⌜ r ≡ quickOf (now (line .entry)) ⌝ }
 {
     if line.len() < BRecord::BASE_LENGTH {
-        return BRecord::parse(line);
+        return Quick::No;
     }
     if !is_ascii(line) {
-        return BRecord::parse(line);
+        return Quick::No;
     }
-    match quick_fix(line) {
-        Quick::Fix(fix) => BRead::Ok(fix),
-        Quick::No => BRecord::parse(line),
-    }
+    plain_fix(line)
 }

@@ -4,11 +4,11 @@ use mathlib.Core.List.{List, [], _∷_, _++_}
 use mathlib.Core.Bool.{Bool}
 use lib.ListN.{length}
 use Rattle.text.specs.Res.{Res, ok, no, bind, guard, pick, _≤?_, _=?_, _∧?_}
-use Rattle.text.specs.Line.{byte}
+use Rattle.text.specs.Line.{byte, columns}
 use Rattle.part.specs.Part.{restFrom, partText}
 use Rattle.text.specs.Number.{readInt, signed}
 use Rattle.text.specs.declared.refusal.Refusal.the-variants.{Syntax}
-use Rattle.field.specs.Field.{columns, ascii}
+use Rattle.field.specs.Field.{ascii}
 use Rattle.datetime.specs.Time.{readTime, timeText, timeBook}
 use Rattle.coord.specs.Coord.{readPosition, positionText, positionBook}
 use Rattle.b_record.specs.declared.FixValid.{FixValid}

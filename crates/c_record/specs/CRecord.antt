@@ -4,11 +4,11 @@ use mathlib.Core.List.{List, [], _∷_, _++_}
 use mathlib.Core.Bool.{Bool, true}
 use lib.ListN.{length}
 use Rattle.text.specs.Res.{Res, ok, no, bind, guard, pick, _≤?_, _=?_, _∧?_, _∨?_}
-use Rattle.text.specs.Line.{byte}
+use Rattle.text.specs.Line.{byte, cut, columns}
 use Rattle.part.specs.Part.{nameFrom, maybeText}
 use Rattle.text.specs.Number.{readNat, readInt, padded, signed, zeros}
 use Rattle.text.specs.declared.refusal.Refusal.the-variants.{Syntax}
-use Rattle.field.specs.Field.{cut, columns, asciiIn}
+use Rattle.field.specs.Field.{asciiIn}
 use Rattle.datetime.specs.Time.{readTime, timeText, timeBook}
 use Rattle.datetime.specs.Date.{readDate, dateText, dateBook}
 use Rattle.coord.specs.Coord.{readPosition, positionText, positionBook}

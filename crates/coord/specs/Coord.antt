@@ -3,10 +3,10 @@ use Prim.Native.Nat.{ℕ, _+_}
 use mathlib.Core.List.{List, [], _∷_, _++_}
 use mathlib.Core.Bool.{Bool}
 use Rattle.text.specs.Res.{Res, ok, no, bind, guard, pick, _≤?_, _=?_, _∧?_, _∨?_}
-use Rattle.text.specs.Line.{byte}
+use Rattle.text.specs.Line.{byte, columns}
 use Rattle.text.specs.Number.{readNat, padded}
 use Rattle.text.specs.declared.refusal.Refusal.the-variants.{Syntax, OutOfRange}
-use Rattle.field.specs.Field.{columns, sized, field}
+use Rattle.field.specs.Field.{sized, field}
 use Rattle.coord.specs.declared.Compass.{Compass}
 use Rattle.coord.specs.declared.Compass.the-variants.{North, South, East, West}
 use Rattle.coord.specs.declared.CompassRead.{CompassRead}

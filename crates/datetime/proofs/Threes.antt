@@ -6,11 +6,13 @@ use mathlib.Core.List.{List}
 use Rattle.text.specs.Res.{Res, ok, no, bind, guard}
 use Rattle.text.specs.Number.{readNat}
 use Rattle.text.specs.declared.refusal.Refusal.{Refusal}
-use Rattle.field.specs.Field.{columns, sized}
+use Rattle.text.specs.Line.{columns}
+use Rattle.field.specs.Field.{sized}
 use Rattle.datetime.specs.Three.{readThree, together}
 use Rattle.datetime.specs.declared.Three.{Three}
 
-guard-bind : {A B : Type 0} (t : Bool) (n : Refusal) (m : Res A) (f : A → Res B) → guard t n (bind m f) ≡ bind (guard t n m) f
+guard-bind : {A B : Type 0} (t : Bool) (n : Refusal) (m : Res A) (f : A → Res B) →
+    guard t n (bind m f) ≡ bind (guard t n m) f
 unfolding guard bind
 guard-bind true n m f = refl
 guard-bind false n m f = refl
@@ -27,7 +29,8 @@ each make (ok a) (ok b) (no n) = refl
 each make (ok a) (no n) z = refl
 each make (no n) y z = refl
 
-pub three-then : {A : Type 0} (make : ℕ → ℕ → ℕ → Res A) (s : List ℕ) → bind (sized 6 (readThree together) s) (madeBy make) ≡ sized 6 (readThree make) s
+pub three-then : {A : Type 0} (make : ℕ → ℕ → ℕ → Res A) (s : List ℕ) →
+    bind (sized 6 (readThree together) s) (madeBy make) ≡ sized 6 (readThree make) s
 unfolding sized readThree
 three-then make s =
     sym (guard-bind _ _ _ (madeBy make)) ∙ rw (each make (columns 0 2 (readNat 255) s) (columns 2 4 (readNat 255) s) (columns 4 6 (readNat 255) s))

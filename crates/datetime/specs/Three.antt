@@ -3,7 +3,7 @@ use Prim.Native.Nat.{ℕ}
 use mathlib.Core.List.{List, _++_}
 use Rattle.text.specs.Res.{Res, ok, no, bind}
 use Rattle.text.specs.Number.{readNat, padded}
-use Rattle.field.specs.Field.{columns}
+use Rattle.text.specs.Line.{columns}
 use Rattle.datetime.specs.declared.Three.{Three}
 use Rattle.datetime.specs.declared.ThreeRead.{ThreeRead}
 use Rattle.datetime.specs.declared.ThreeRead.the-variants as three

@@ -3,10 +3,10 @@ use Prim.Native.Nat.{ℕ, _+_}
 use mathlib.Core.List.{List, _++_}
 use lib.ListN.{length}
 use Rattle.text.specs.Res.{Res, ok, no, bind, guard, _≤?_, _=?_, _∧?_}
-use Rattle.text.specs.Line.{byte}
+use Rattle.text.specs.Line.{byte, columns}
 use Rattle.text.specs.Number.{readNat, padded}
 use Rattle.text.specs.declared.refusal.Refusal.the-variants.{Syntax, BadExtension}
-use Rattle.field.specs.Field.{columns, mnemonicText}
+use Rattle.field.specs.Field.{mnemonicText}
 use Rattle.field.specs.declared.Mnemonic.{Mnemonic}
 use Rattle.extension.specs.declared.Extension.{Extension}
 use Rattle.extension.specs.declared.ExtensionRead.{ExtensionRead}

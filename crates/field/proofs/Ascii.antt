@@ -10,7 +10,8 @@ use lib.ListN.{length, take, drop, getD}
 use borrow.Author.Tests.{eq-eqb, ne-eqb}
 use Rattle.text.specs.Res.{Res, pick, _≤?_, _∧?_}
 use Rattle.text.proofs.Steps.{is≤, isnt≤, fails, holds, and, both, pass}
-use Rattle.field.specs.Field.{isAscii, cut, asciiIn, ascii}
+use Rattle.text.specs.Line.{cut}
+use Rattle.field.specs.Field.{isAscii, asciiIn, ascii}
 use Rattle.field.proofs.Every.{Every, ∧?-assoc, all-at}
 
 pub every-ascii : Every (λ b. b ≤? 127) isAscii
@@ -52,7 +53,8 @@ eight s i h inv e =
     simp (e, ∧?-assoc)
     (sym (all-at every-ascii s i (i + 1) refl (omega arith) (at 1 (omega arith) (at 2 (omega arith) (at 3 (omega arith) (at 4 (omega arith) (at 5 (omega arith) (at 6 (omega arith) (at 7 (omega arith) refl)))))))) ∙ inv)
   where
-    at : (k : ℕ) {rest : Bool} → k < 8 → isAscii (drop (i + (k + 1)) s) ≡ rest → isAscii (drop (i + k) s) ≡ ((getD s (i + k) 0 ≤? 127) ∧? rest)
+    at : (k : ℕ) {rest : Bool} → k < 8 → isAscii (drop (i + (k + 1)) s) ≡ rest →
+        isAscii (drop (i + k) s) ≡ ((getD s (i + k) 0 ≤? 127) ∧? rest)
     at k l q = all-at every-ascii s (i + k) (i + (k + 1)) (omega arith) (omega arith) q
 
 -- ---- parts of an ASCII text are ASCII

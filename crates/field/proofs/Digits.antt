@@ -7,10 +7,9 @@ use native.Mathlib.Nat.{sub-zero, zero-sub, suc-sub-suc}
 use native.Mathlib.Omega.{arith}
 use lib.ListN.{take, drop}
 use lib.Seq.{take-nil, take-take, drop-drop, getD-take, getD-drop}
-use Rattle.text.specs.Line.{byte}
+use Rattle.text.specs.Line.{byte, cut}
 use Rattle.text.specs.Number.{allDigits}
 use Rattle.text.proofs.Decimal.{head-digit, cons-digit}
-use Rattle.field.specs.Field.{cut}
 
 -- ---- columns of columns
 
@@ -46,6 +45,7 @@ drop-digits (suc n) [] h = refl
 drop-digits (suc n) (b ∷ s) h = drop-digits n s (head-digit b s h .2)
 
 -- columns of digits have digits in them
-pub cut-digits : (a b c d : ℕ) (s : List ℕ) → a + d ≤ b → allDigits (cut a b s) ≡ true → allDigits (cut (a + c) (a + d) s) ≡ true
+pub cut-digits : (a b c d : ℕ) (s : List ℕ) → a + d ≤ b → allDigits (cut a b s) ≡ true →
+    allDigits (cut (a + c) (a + d) s) ≡ true
 unfolding cut
 cut-digits a b c d s h ds = rw (← cut-cut a b c d s h) (take-digits (d - c) _ (drop-digits c _ ds))

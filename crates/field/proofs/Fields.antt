@@ -7,7 +7,8 @@ use lib.ListN.{length}
 use Rattle.text.specs.Res.{Res, no}
 use Rattle.text.specs.declared.refusal.Refusal.the-variants.{NotAscii, WrongLength}
 use Rattle.text.proofs.Steps.{pass, stop, no=, yes=}
-use Rattle.field.specs.Field.{isAscii, cut, columns, sized, asciiIn, ascii, field}
+use Rattle.text.specs.Line.{cut, columns}
+use Rattle.field.specs.Field.{isAscii, sized, asciiIn, ascii, field}
 use Rattle.field.proofs.Ascii.{cut-ascii, known-ascii}
 
 module _ {A : Type 0} (n : ℕ) (read : List ℕ → Res A) (s : List ℕ) where
@@ -25,6 +26,7 @@ module _ {A : Type 0} (n : ℕ) (read : List ℕ → Res A) (s : List ℕ) where
   known h = rw (known-ascii read s h)
 
 -- in the columns of an ASCII line it says nothing either
-pub known-columns : {A : Type 0} (a b n : ℕ) (read : List ℕ → Res A) (s : List ℕ) → isAscii s ≡ true → columns a b (sized n read) s ≡ columns a b (field n read) s
+pub known-columns : {A : Type 0} (a b n : ℕ) (read : List ℕ → Res A) (s : List ℕ) → isAscii s ≡ true →
+    columns a b (sized n read) s ≡ columns a b (field n read) s
 unfolding columns
 known-columns a b n read s h = known n read (cut a b s) (cut-ascii a b s h)

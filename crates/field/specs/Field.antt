@@ -12,14 +12,6 @@ unfoldable pub isAscii : List ℕ → Bool
 isAscii [] = true
 isAscii (b ∷ s) = (b ≤? 127) ∧? isAscii s
 
--- The columns from a up to b.
-unfoldable pub cut : ℕ → ℕ → List ℕ → List ℕ
-cut a b s = take (b - a) (drop a s)
-
--- What a reader says of the columns from a up to b.
-unfoldable pub columns : {A : Type 0} → ℕ → ℕ → (List ℕ → Res A) → List ℕ → Res A
-columns a b read s = read (cut a b s)
-
 -- A text of n bytes and no other length, 7 else.
 unfoldable pub sized : {A : Type 0} → ℕ → (List ℕ → Res A) → List ℕ → Res A
 sized n read s = guard (length s =? n) WrongLength (read s)

@@ -1,14 +1,16 @@
--- A line of the program `fields`.
+-- A line of the program `fields`, and the whole text.
 use Prim.Native.Nat.{ℕ}
 use mathlib.Core.List.{List, [], _∷_, _++_}
 use Rattle.text.specs.Res.{Res, ok, no, pick, _=?_}
-use Rattle.table.specs.Table.{readTable, tableRead}
-use Rattle.records.specs.Record.{readLine, recordBook, acceptedAs}
+use Rattle.records.specs.Record.{recordTable, recordPiece, recordBook, acceptedAs}
 use Rattle.records.specs.declared.Record.{Record}
+use Rattle.log.specs.Log.{readings}
+use Rattle.log.specs.Fold.{texts}
 use Rattle.held.specs.declared.Held.{Held}
+use Rattle.walk.specs.Readings.{Line-read, reader}
 use Rattle.listing_text.specs.Line.{headText}
-use Rattle.fields_piece.specs.Piece.{byteShown}
-use Rattle.fields_text.specs.Record.{recordShown}
+use Rattle.record_text.specs.Piece.{byteShown}
+use Rattle.record_text.specs.Record.{recordShown}
 
 -- `y` or `n` for by the book; a line answered 11 or 12 has no verdict.
 unfoldable pub bookShown : Record → List ℕ
@@ -19,14 +21,25 @@ unfoldable pub printedShown : List ℕ → List ℕ
 printedShown printed = (32 ∷ []) ++ ((61 ∷ []) ++ printed)
 
 -- What is seen of an accepted line s: its fields, the verdict, and the record as printed.
-unfoldable pub seen : Record → Held → List ℕ → List ℕ → List ℕ → List ℕ
-seen r h names printed s = recordShown r (tableRead (readTable s) .table) h names s ++ (bookShown r ++ printedShown printed)
+unfoldable pub seen : Record → Held → List ℕ → List ℕ → List ℕ
+seen r h names s =
+    recordShown r (recordTable r s) h names s
+    ++ (bookShown r ++ printedShown (recordPiece r (recordTable r s) s))
 
 -- A refused line ends with its answer.
-unfoldable pub fieldsShown : Res Record → Held → List ℕ → List ℕ → List ℕ → List ℕ
-fieldsShown (ok r) h names printed s = seen r h names printed s
-fieldsShown (no n) h names printed s = []
+unfoldable pub fieldsShown : Res Record → Held → List ℕ → List ℕ → List ℕ
+fieldsShown (ok r) h names s = seen r h names s
+fieldsShown (no n) h names s = []
 
--- Line n with the text s, at which h is in force: number, letter and answer as in the listing, then its fields.
-unfoldable pub fieldsLine : ℕ → List ℕ → Held → List ℕ → List ℕ → List ℕ
-fieldsLine n s h names printed = headText n s (readLine s) ++ (fieldsShown (readLine s) h names printed s ++ (10 ∷ []))
+-- Line n with the text s, answered m, at which h is in force: number, letter and answer as in the listing, then its
+-- fields.
+unfoldable pub fieldsLine : ℕ → List ℕ → Res Record → Held → List ℕ → List ℕ
+fieldsLine n s m h names = headText n s m ++ (fieldsShown m h names s ++ (10 ∷ []))
+
+-- The line of a reading, with the names asked for.
+unfoldable pub fieldsOf : List ℕ → Line-read → List ℕ
+fieldsOf names x = fieldsLine (x .number) (x .line) (x .answer) (x .held) names
+
+-- What is shown of a log: a line for each reading of a fresh walk.
+unfoldable pub fieldsText : List ℕ → List ℕ → List ℕ
+fieldsText names log = texts (fieldsOf names) (readings reader log)

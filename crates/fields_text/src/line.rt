@@ -1,13 +1,12 @@
 // A whole line of the program's text.
 ghost use Rattle.put.specs.Put.{Wrote};
-ghost use Rattle.records.specs.Record.{readingRes};
+ghost use Rattle.records.specs.Record.{readingRes, recordPiece};
 ghost use Rattle.fields_text.specs.Line.{bookShown, printedShown, seen, fieldsShown, fieldsLine};
-use crate::record::put_record;
-use fields_piece::put_raw;
 use held::Held;
 use listing_text::put_head;
 use put::put_byte;
-use put::put_bytes;
+use record_text::piece::put_raw;
+use record_text::record::put_record;
 use records::Reading;
 use records::Record;
 use table::Table;
@@ -26,30 +25,22 @@ fn put_book(rec: Record, buf: &mut [u8], at: usize) -> usize
 }
 
 // The record as printed, behind ` =`.
-fn put_printed(printed: &[u8], buf: &mut [u8], at: usize) -> usize
-    ensures { λ r. ⌜ Wrote (now (buf .entry)) at (printedShown (now (printed .entry))) (now (buf .exit)) r ⌝ }
+fn put_printed(rec: Record, table: Table, line: &[u8], buf: &mut [u8], at: usize) -> usize
+    ensures { λ r. ⌜ Wrote (now (buf .entry)) at (printedShown (recordPiece rec table (now (line .entry)))) (now (buf .exit)) r ⌝ }
 {
     let sign = put_byte(buf, at, b' ');
     let text = put_byte(buf, sign, b'=');
-    put_bytes(buf, text, printed)
+    rec.put_piece(table, line, buf, text)
 }
 
 // What is seen of an accepted line.
-fn put_seen(
-    rec: Record,
-    held: Held,
-    names: &[u8],
-    printed: &[u8],
-    line: &[u8],
-    buf: &mut [u8],
-    at: usize,
-) -> usize
-    ensures { λ r. ⌜ Wrote (now (buf .entry)) at (seen rec held (now (names .entry)) (now (printed .entry)) (now (line .entry))) (now (buf .exit)) r ⌝ }
+fn put_seen(rec: Record, held: Held, names: &[u8], line: &[u8], buf: &mut [u8], at: usize) -> usize
+    ensures { λ r. ⌜ Wrote (now (buf .entry)) at (seen rec held (now (names .entry)) (now (line .entry))) (now (buf .exit)) r ⌝ }
 {
-    let table = Table::parse(line).table;
+    let table = rec.table(line);
     let book = put_record(rec, table, held, names, line, buf, at);
     let sign = put_book(rec, buf, book);
-    put_printed(printed, buf, sign)
+    put_printed(rec, table, line, buf, sign)
 }
 
 // The fields of a reading; a refused line has none.
@@ -57,34 +48,32 @@ fn put_fields(
     reading: Reading,
     held: Held,
     names: &[u8],
-    printed: &[u8],
     line: &[u8],
     buf: &mut [u8],
     at: usize,
 ) -> usize
-    ensures { λ r. ⌜ Wrote (now (buf .entry)) at (fieldsShown (readingRes reading) held (now (names .entry)) (now (printed .entry)) (now (line .entry))) (now (buf .exit)) r ⌝ }
+    ensures { λ r. ⌜ Wrote (now (buf .entry)) at (fieldsShown (readingRes reading) held (now (names .entry)) (now (line .entry))) (now (buf .exit)) r ⌝ }
 {
     match reading {
-        Reading::Accepted(record) => put_seen(record, held, names, printed, line, buf, at),
+        Reading::Accepted(record) => put_seen(record, held, names, line, buf, at),
         Reading::Refused(_) => at,
     }
 }
 
-// The line with this number: what `held` has in force at it, the names asked for (three bytes each; none: the table's), and its
-// record as printed.
+// The line with this number, as it was read: what `held` has in force at it, and the names asked for (three bytes each;
+// none: the table's).
 pub fn put_line(
     number: u64,
     line: &[u8],
+    reading: Reading,
     held: Held,
     names: &[u8],
-    printed: &[u8],
     buf: &mut [u8],
     at: usize,
 ) -> usize
-    ensures { λ r. ⌜ Wrote (now (buf .entry)) at (fieldsLine number (now (line .entry)) held (now (names .entry)) (now (printed .entry))) (now (buf .exit)) r ⌝ }
+    ensures { λ r. ⌜ Wrote (now (buf .entry)) at (fieldsLine number (now (line .entry)) (readingRes reading) held (now (names .entry))) (now (buf .exit)) r ⌝ }
 {
-    let reading = Record::parse_line(line);
     let fields = put_head(number, line, reading, buf, at);
-    let end = put_fields(reading, held, names, printed, line, buf, fields);
+    let end = put_fields(reading, held, names, line, buf, fields);
     put_byte(buf, end, b'\n')
 }

@@ -3,12 +3,12 @@ use Prim.Native.Nat.{ℕ, suc, _+_, _-_, _/_, _%_}
 use mathlib.Core.List.{List, [], _∷_, _++_}
 use lib.ListN.{length, drop}
 use Rattle.text.specs.Res.{Res, ok, no, bind, guard, pick, _≤?_, _=?_}
-use Rattle.text.specs.Line.{byte}
+use Rattle.text.specs.Line.{byte, cut}
 use Rattle.part.specs.Part.{restFrom, partText, maybeText}
 use Rattle.text.specs.declared.refusal.Refusal.the-variants.{Syntax}
 use Rattle.part.specs.declared.MaybePart.{MaybePart}
 use Rattle.part.specs.declared.MaybePart.the-variants as maybe
-use Rattle.field.specs.Field.{cut, asciiIn}
+use Rattle.field.specs.Field.{asciiIn}
 use Rattle.h_record.specs.declared.DataSource.{DataSource}
 use Rattle.h_record.specs.declared.DataSource.the-variants.{FVU, OfficialObserver, Pilot, Unrecognized}
 use Rattle.h_record.specs.declared.HRecord.{HRecord}

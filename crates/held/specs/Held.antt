@@ -4,7 +4,7 @@ use mathlib.Core.Bool.{Bool, true, false}
 use mathlib.Core.List.{List, [], _∷_}
 use lib.ListN.{length}
 use Rattle.text.specs.Res.{Res, ok, no, bind, guard, pick, _≤?_, _=?_, _∧?_}
-use Rattle.text.specs.Line.{byte}
+use Rattle.text.specs.Line.{begins}
 use Rattle.text.specs.declared.refusal.Refusal.the-variants.{NoDefinition}
 use Rattle.part.specs.declared.Part.{Part}
 use Rattle.field.specs.declared.Mnemonic.{Mnemonic}
@@ -29,11 +29,8 @@ unfoldable pub setBy : Res (List Extension) → Held
 setBy (ok ds) = record { table = tableOf ds; slot = Set }
 setBy (no n) = noTable
 
--- The line begins with that byte.
-unfoldable pub begins : ℕ → List ℕ → Bool
-begins letter s = (1 ≤? length s) ∧? (byte 0 s =? letter)
-
--- What is held after a line: an accepted line of the letter replaces the table, a refused one removes it, no other touches it.
+-- What is held after a line: an accepted line of the letter replaces the table, a refused one removes it, no other
+-- touches it.
 unfoldable pub heldAfter : ℕ → Held → List ℕ → Held
 heldAfter letter h s = pick (begins letter s) (setBy (readTable s)) h
 

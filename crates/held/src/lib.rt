@@ -4,13 +4,14 @@ ghost use Prim.Native.Nat.{_≤_};
 ghost use Rattle.part.specs.Part.{foundRes, shown, Shows};
 ghost use Rattle.extension.specs.Extension.{extensionRes};
 ghost use Rattle.table.specs.Table.{readTable, defsOf};
-ghost use Rattle.held.specs.Held.{noTable, setBy, begins as Held·begins, heldAfter, sameName, firstNamed, define, lookUp};
+ghost use Rattle.held.specs.Held.{noTable, setBy, heldAfter, sameName, firstNamed, define, lookUp};
 use extension::ExtensionRead;
 use field::Mnemonic;
 use part::Found;
 use part::Part;
 use table::Table;
 use table::Verdict;
+use text::line::begins;
 use text::refusal::Refusal;
 
 pub enum Slot {
@@ -21,15 +22,6 @@ pub enum Slot {
 pub struct Held {
     pub table: Table,
     pub slot: Slot,
-}
-
-pub fn begins(letter: u8, line: &[u8]) -> bool
-    ensures { λ r. ⌜ r ≡ Held·begins letter (now (line .entry)) ⌝ }
-{
-    if line.len() == 0 {
-        return false;
-    }
-    line[0] == letter
 }
 
 fn same_name(a: Mnemonic, b: Mnemonic) -> bool

@@ -11,11 +11,11 @@ fn log_buffer() -> [u8; 65537]
     [0; 65537]
 }
 
-// Room for the listing of any such log: a line of a log takes a byte or more, and a line of the listing at most 25.
-fn text_buffer() -> [u8; 1638464]
-    ensures { λ r. ⌜ 1638464 ≡ length r ⌝ }
+// Room for the listing of any such log (`roomFor` of `listing_text`), which is then read once.
+fn text_buffer() -> [u8; 2490433]
+    ensures { λ r. ⌜ 2490433 ≡ length r ⌝ }
 {
-    [0; 1638464]
+    [0; 2490433]
 }
 
 fn list(log: &[u8]) {

@@ -5,9 +5,10 @@ use Rattle.text.specs.Res.{Res, ok, no, pick, numberOf, _≤?_, _∧?_}
 use Rattle.text.specs.Line.{byte}
 use Rattle.text.specs.Number.{padded, signed}
 use Rattle.b_record.specs.declared.BRecord.{BRecord}
-use Rattle.records.specs.Record.{acceptedAs}
+use Rattle.records.specs.Record.{acceptedAs, answerFix}
 use Rattle.records.specs.declared.Record.{Record}
-use Rattle.records.specs.declared.Record.the-variants as rec
+use Rattle.records.specs.declared.MaybeFix.{MaybeFix}
+use Rattle.records.specs.declared.MaybeFix.the-variants.{Missing, Fix}
 
 -- A number in plain decimal.
 unfoldable pub plain : ℕ → List ℕ
@@ -34,19 +35,11 @@ headText n s m = plain n ++ answerText s m
 unfoldable pub fixHeights : BRecord → List ℕ
 fixHeights r = (32 ∷ []) ++ (signed 5 (r .«pressure_alt» .0) ++ ((32 ∷ []) ++ signed 5 (r .«gps_alt» .0)))
 
--- For an accepted B line its heights, for another nothing.
-unfoldable pub heightsText : Res Record → List ℕ
-heightsText (ok (rec.B r)) = fixHeights r
-heightsText (ok (rec.A r)) = []
-heightsText (ok (rec.CDeclaration r)) = []
-heightsText (ok (rec.CTurnpoint r)) = []
-heightsText (ok (rec.H r)) = []
-heightsText (ok rec.I) = []
-heightsText (ok rec.J) = []
-heightsText (ok (rec.NotTaken p)) = []
-heightsText (ok (rec.Unrecognised p)) = []
-heightsText (no n) = []
+-- The heights of a fix; nothing where there is none.
+unfoldable pub heightsOf : MaybeFix → List ℕ
+heightsOf (Fix r) = fixHeights r
+heightsOf Missing = []
 
--- Line n with the text s, answered m.
-unfoldable pub lineText : ℕ → List ℕ → Res Record → List ℕ
-lineText n s m = headText n s m ++ (heightsText m ++ (10 ∷ []))
+-- Line n with the text s, answered m: its head, and for an accepted B line its heights.
+unfoldable pub listingLine : ℕ → List ℕ → Res Record → List ℕ
+listingLine n s m = headText n s m ++ (heightsOf (answerFix m) ++ (10 ∷ []))

@@ -2,10 +2,9 @@
 use Prim.Native.Nat.{ℕ, _+_}
 use mathlib.Core.Bool.{Bool}
 use mathlib.Core.List.{List, [], _∷_, _++_}
-use lib.ListN.{length}
 use Rattle.text.specs.Res.{Res, pick, _≤?_, _=?_, _∧?_}
 use Rattle.records.specs.declared.Record.{Record}
-use Rattle.held.specs.Held.{begins}
+use Rattle.text.specs.Line.{begins}
 use Rattle.walk.specs.Readings.{Line-read}
 use Rattle.listing_text.specs.Line.{plain, answered}
 use Rattle.listing_text.specs.declared.trailer.Offset.{Offset}
@@ -16,23 +15,28 @@ use Rattle.listing_text.specs.declared.trailer.Trailer.{Trailer}
 unfoldable pub isRefusal : Res Record → Bool
 isRefusal m = (1 ≤? answered m) ∧? (answered m ≤? 5)
 
--- How many of these lines are answered 1 to 5.
-unfoldable pub refusals : List Line-read → ℕ
-refusals [] = 0
-refusals (x ∷ xs) = pick (isRefusal (x .answer)) 1 0 + refusals xs
-
--- The I line in force after a line at a place: an accepted line that begins with I is, after a refused one there is none.
+-- The I line in force after a line at a place: an accepted line that begins with I is, after a refused one there is
+-- none.
 unfoldable pub forceAfter : Offset → ℕ → List ℕ → Res Record → Offset
 forceAfter o p s m = pick (begins 73 s) (pick (answered m =? 0) (At p) Missing) o
 
--- The I line in force after these lines.
-unfoldable pub inForce : Offset → List Line-read → Offset
-inForce o [] = o
-inForce o (x ∷ xs) = inForce (forceAfter o (x .place) (x .line) (x .answer)) xs
+-- Over no readings.
+unfoldable pub nothing : Trailer
+nothing = record { lines = 0; refused = 0; «in_force» = Missing }
 
--- The figures of a walk's readings.
-unfoldable pub trailerOf : List Line-read → Trailer
-trailerOf xs = record { lines = length xs; refused = refusals xs; «in_force» = inForce Missing xs }
+-- Over one reading more, of a line with the text s at the place p, answered m.
+unfoldable pub counted : Trailer → ℕ → List ℕ → Res Record → Trailer
+counted t p s m = record {
+  lines = t .lines + 1;
+  refused = t .refused + pick (isRefusal m) 1 0;
+  «in_force» = forceAfter (t .«in_force») p s m;
+}
+
+-- The same as a step over readings.
+unfoldable pub countStep : Trailer → Line-read → Trailer
+countStep t x = counted t (x .place) (x .line) (x .answer)
+
+-- ---- its text
 
 unfoldable pub offsetText : Offset → List ℕ
 offsetText Missing = 45 ∷ []
@@ -44,17 +48,3 @@ figures t = (32 ∷ []) ++ (plain (t .lines) ++ ((32 ∷ []) ++ plain (t .refuse
 
 unfoldable pub trailerText : Trailer → List ℕ
 trailerText t = (84 ∷ []) ++ (figures t ++ ((32 ∷ []) ++ (offsetText (t .«in_force») ++ (10 ∷ []))))
-
--- ---- a line at a time
-
--- Over no readings.
-unfoldable pub nothing : Trailer
-nothing = record { lines = 0; refused = 0; «in_force» = Missing }
-
--- Over one reading more.
-unfoldable pub counted : Trailer → ℕ → List ℕ → Res Record → Trailer
-counted t p s m = record {
-  lines = t .lines + 1;
-  refused = t .refused + pick (isRefusal m) 1 0;
-  «in_force» = forceAfter (t .«in_force») p s m;
-}

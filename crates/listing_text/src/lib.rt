@@ -5,13 +5,13 @@ pub mod trailer;
 ghost use mathlib.Core.Path.{_≡_};
 ghost use Rattle.put.specs.Put.{Wrote};
 ghost use Rattle.records.specs.Record.{readingRes};
-ghost use Rattle.listing_text.specs.Line.{letterOf, answerText, headText, fixHeights, heightsText, lineText};
+ghost use Rattle.listing_text.specs.Line.{letterOf, answerText, headText, fixHeights, heightsOf, listingLine};
 use b_record::BRecord;
 use print::number::put_i16;
 use print::number::put_nat;
 use put::put_byte;
+use records::MaybeFix;
 use records::Reading;
-use records::Record;
 
 // The first byte if it is A to Z, else `-`.
 fn letter_of(line: &[u8]) -> u8
@@ -58,31 +58,21 @@ fn put_fix(fix: BRecord, buf: &mut [u8], at: usize) -> usize
     put_i16(buf, gps, fix.gps_alt.0, 5)
 }
 
-// The heights of an accepted B line; nothing of another.
-fn put_heights(reading: Reading, buf: &mut [u8], at: usize) -> usize
-    ensures { λ r. ⌜ Wrote (now (buf .entry)) at (heightsText (readingRes reading)) (now (buf .exit)) r ⌝ }
+// The heights of a fix; nothing where there is none.
+fn put_heights(fix: MaybeFix, buf: &mut [u8], at: usize) -> usize
+    ensures { λ r. ⌜ Wrote (now (buf .entry)) at (heightsOf fix) (now (buf .exit)) r ⌝ }
 {
-    match reading {
-        Reading::Accepted(record) => match record {
-            Record::B(fix) => put_fix(fix, buf, at),
-            Record::A(_) => at,
-            Record::CDeclaration(_) => at,
-            Record::CTurnpoint(_) => at,
-            Record::H(_) => at,
-            Record::I => at,
-            Record::J => at,
-            Record::NotTaken(_) => at,
-            Record::Unrecognised(_) => at,
-        },
-        Reading::Refused(_) => at,
+    match fix {
+        MaybeFix::Fix(b) => put_fix(b, buf, at),
+        MaybeFix::Missing => at,
     }
 }
 
 // A line of the listing, closed by LF.
 pub fn put_line(number: u64, line: &[u8], reading: Reading, buf: &mut [u8], at: usize) -> usize
-    ensures { λ r. ⌜ Wrote (now (buf .entry)) at (lineText number (now (line .entry)) (readingRes reading)) (now (buf .exit)) r ⌝ }
+    ensures { λ r. ⌜ Wrote (now (buf .entry)) at (listingLine number (now (line .entry)) (readingRes reading)) (now (buf .exit)) r ⌝ }
 {
     let heights = put_head(number, line, reading, buf, at);
-    let end = put_heights(reading, buf, heights);
+    let end = put_heights(reading.fix(), buf, heights);
     put_byte(buf, end, b'\n')
 }

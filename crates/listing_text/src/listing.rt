@@ -1,20 +1,20 @@
 // The whole listing of a log.
 ghost use mathlib.Core.Path.{_≡_};
 ghost use Prim.Native.Nat.{_<_};
-ghost use Rattle.text.specs.Res.{ok};
-ghost use Rattle.put.specs.Put.{largest, Wrote};
+ghost use Rattle.text.specs.Res.{ok, _≤?_};
+ghost use Rattle.text.specs.Word.{largest};
+ghost use Rattle.put.specs.Put.{Wrote};
 ghost use Rattle.print.specs.Print.{Prints};
 ghost use Rattle.records.specs.Record.{readingRes};
 ghost use Rattle.listing_text.specs.Trailer.{counted};
-ghost use Rattle.listing_text.specs.Listing.{listingText};
+ghost use Rattle.listing_text.specs.Listing.{listingText, roomFor};
 use crate::put_line;
 use crate::trailer::Trailer;
 use crate::trailer::is_refusal;
-use log::cut_at;
 use print::printed::Printed;
 use records::Reading;
-use records::Record;
 use text::refusal::Refusal;
+use walk::turn::read_at;
 
 // The figures over one reading more.
 fn count_line(t: Trailer, place: usize, line: &[u8], reading: Reading) -> Trailer
@@ -39,27 +39,42 @@ fn count_line(t: Trailer, place: usize, line: &[u8], reading: Reading) -> Traile
 }
 
 // What a fresh walk over the log reads, line by line, and the trailer.
-pub fn put_listing(log: &[u8], buf: &mut [u8], at: usize) -> usize
+fn put_listing(log: &[u8], buf: &mut [u8], at: usize) -> usize
     ensures { λ r. ⌜ Wrote (now (buf .entry)) at (listingText (now (log .entry))) (now (buf .exit)) r ⌝ }
 {
     let mut trailer = Trailer::new();
     let mut end = at;
     let mut place = 0;
     while place < log.len() {
-        let cut = cut_at(log, place);
-        let part = cut.line;
+        let got = read_at(log, place);
+        let part = got.line;
+        let reading = got.reading;
         let line = part.view(log);
-        let reading = Record::parse_line(line);
         trailer = count_line(trailer, place, line, reading);
         end = put_line(trailer.lines, line, reading, buf, end);
-        place = cut.next;
+        place = got.next;
     }
     trailer.put(buf, end)
 }
 
+// The listing of any log of n bytes has room.
+fn has_room(n: usize, room: usize) -> bool
+    ensures { λ r. ⌜ r ≡ (roomFor n ≤? room) ⌝ }
+{
+    if room < 65 {
+        return false;
+    }
+    n <= (room - 65) / 38
+}
+
+// The log is read once where the listing has room for sure. Else it is tried on no bytes first: a refused call leaves
+// lent bytes as they were.
 pub fn print_listing(log: &[u8], buf: &mut [u8]) -> Printed
     ensures { λ r. ⌜ Prints (ok (listingText (now (log .entry)))) (now (buf .entry)) (now (buf .exit)) r ⌝ }
 {
+    if has_room(log.len(), buf.len()) {
+        return Printed::Written(put_listing(log, buf, 0));
+    }
     if buf.len() < put_listing(log, &mut [], 0) {
         return Printed::Refused(Refusal::NoRoom);
     }

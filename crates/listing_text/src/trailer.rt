@@ -3,10 +3,10 @@ ghost use mathlib.Core.Path.{_≡_};
 ghost use Rattle.put.specs.Put.{Wrote};
 ghost use Rattle.records.specs.Record.{readingRes};
 ghost use Rattle.listing_text.specs.Trailer.{nothing, isRefusal, forceAfter, offsetText, figures, trailerText};
-use held::begins;
 use print::number::put_nat;
 use put::put_byte;
 use records::Reading;
+use text::line::begins;
 
 // The place of the I line in force, or none.
 pub enum Offset {

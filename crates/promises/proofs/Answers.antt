@@ -1,5 +1,5 @@
 -- Answers are determined: each crate's laws on its own answers, as one list.
-use mathlib.Core.Path.{_≡_, refl}
+use mathlib.Core.Path.{_≡_, refl, sym, ap, _∙_}
 use Rattle.text.specs.Res.{Res}
 use Rattle.text.specs.declared.refusal.Refusal.{Refusal}
 use Rattle.text.proofs.Answers.{made, told, u8-undone, u16-undone, i8-undone, i16-undone}
@@ -13,11 +13,14 @@ use Rattle.b_record.proofs.Answers.{fix-undone, b-undone}
 use Rattle.c_record.proofs.Answers.{declaration-undone, turnpoint-undone}
 use Rattle.h_record.proofs.Answers.{h-undone}
 use Rattle.records.proofs.Answers.{reading-undone}
+use Rattle.bench_loops.specs.Timed.{Out}
 use Rattle.promises.specs.Determined.{Tells, Determined}
 
+-- a view from which the answer can be made again tells
 tells : {A E : Type 0} (view : E → Res A) (f : A → E) (g : Refusal → E) → ((r : E) → made f g (view r) ≡ r) → Tells view
 tells view f g undone r q e = told view f g undone e refl
 
+-- each way of stating an answer
 pub determined : Determined
 determined = record {
   u8 = tells _ _ _ u8-undone;
@@ -41,4 +44,12 @@ determined = record {
   shows = shows-one;
   wrote = wrote-one;
   prints = prints-one;
+  outs = λ p q. let e = sym p ∙ q in (ap (λ (o : Out). o .sum) e, ap (λ (o : Out). o .bytes) e);
+  took = λ p q.
+      let n = p .taken ∙ sym (q .taken) in (
+        rw n at (p .carried) ∙ sym (q .carried),
+        n,
+        rw n at (p .text-end) ∙ sym (q .text-end),
+        rw n at (p .content) ∙ sym (q .content),
+      );
 }

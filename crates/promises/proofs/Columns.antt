@@ -8,10 +8,10 @@ use native.Mathlib.Numerals.{add-one}
 use lib.ListN.{length, drop, length-drop, take-append-drop, drop-of-length-le}
 use lib.Seq.{drop-drop, drop-cons, take-all}
 use Rattle.text.specs.Res.{Res}
-use Rattle.text.specs.Line.{byte}
+use Rattle.text.specs.Line.{byte, cut, columns}
 use Rattle.text.proofs.Steps.{is=}
 use Rattle.text.proofs.Finds.{Finds, finds-guard}
-use Rattle.field.specs.Field.{cut, columns, sized, asciiIn, ascii, field}
+use Rattle.field.specs.Field.{sized, asciiIn, ascii, field}
 
 -- w columns from a on, and all that stands behind them, are all from a on
 pub joined : (a w : ℕ) (s : List ℕ) → cut a (a + w) s ++ drop (a + w) s ≡ drop a s
@@ -31,9 +31,6 @@ unfolding cut
 to-end a b s h = take-all (b - a) (drop a s) (omega (arith, length-drop a s))
 
 -- ---- what is found in them
-
-pub finds-map : {A : Type 0} {m : Res A} {P Q : A → Type 0} → Finds m P → ((a : A) → P a → Q a) → Finds m Q
-finds-map f g = record { found = λ a e. g a (f .found a e) }
 
 module _ {A : Type 0} (read : List ℕ → Res A) (s : List ℕ) {P : A → Type 0} where
   pub finds-columns : (a b : ℕ) → Finds (read (cut a b s)) P → Finds (columns a b read s) P

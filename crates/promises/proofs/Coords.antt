@@ -7,11 +7,12 @@ use native.Mathlib.Nat.{zero-add}
 use native.Mathlib.Omega.{arith}
 use lib.ListN.{length, drop}
 use Rattle.text.specs.Res.{_∨?_}
-use Rattle.text.specs.Line.{byte}
+use Rattle.text.specs.Line.{byte, cut}
 use Rattle.text.proofs.Steps.{is=}
 use Rattle.text.proofs.Finds.{Finds, finds-ok, finds-no, finds-bind, finds-guard, finds-pick}
-use Rattle.field.specs.Field.{cut}
-use Rattle.coord.specs.Coord.{letterOf, signOf, coordOf, lettered, readCoord, coordText, latitude, longitude, latitudeIn, longitudeIn, latitudeText, longitudeText, readBoth, readPosition, positionText}
+use Rattle.coord.specs.Coord.{letterOf, signOf, coordOf, lettered, readCoord, coordText, latitude, longitude}
+use Rattle.coord.specs.Coord.{latitudeIn, longitudeIn, latitudeText, longitudeText, readBoth, readPosition}
+use Rattle.coord.specs.Coord.{positionText}
 use Rattle.coord.specs.declared.Compass.{Compass}
 use Rattle.coord.specs.declared.Compass.the-variants.{North, South, East, West}
 use Rattle.promises.specs.Odd.{coordPlus, positionPlus}
@@ -24,14 +25,17 @@ unfolding signOf
 sign-same x y l = finds-pick (λ e. finds-ok (sym (is= e))) (λ _. finds-pick (λ e. finds-ok (sym (is= e))) (λ _. finds-no))
 
 -- w columns from the start on, and then those behind them
-front : (s : List ℕ) (w : ℕ) {o p : Bool} {t u : List ℕ} → Copy o (cut 0 w s) t → Copy p (drop w s) u → Copy (o ∨? p) s (t ++ u)
+front : (s : List ℕ) (w : ℕ) {o p : Bool} {t u : List ℕ} → Copy o (cut 0 w s) t → Copy p (drop w s) u →
+    Copy (o ∨? p) s (t ++ u)
 front s w c d = let j : cut 0 w s ++ drop w s ≡ s = rw zero-add at (joined 0 w s) in rw j at (behind c d)
 
-coord-makes : (d limit g t : ℕ) (c : Compass) → Finds (coordOf limit g t c) (λ v. coordText d v ≡ coordText d (record { degrees = g; «minute_thousandths» = t; sign = c }))
+coord-makes : (d limit g t : ℕ) (c : Compass) →
+    Finds (coordOf limit g t c) (λ v. coordText d v ≡ coordText d (record { degrees = g; «minute_thousandths» = t; sign = c }))
 unfolding coordOf
 coord-makes d limit g t c = finds-guard _ (λ _. finds-ok refl)
 
-coord-copy : (d limit : ℕ) (x y : Compass) (s : List ℕ) → length s ≡ d + 6 → Finds (readCoord d limit x y s) (λ c. Copy (coordPlus d s) s (coordText d c))
+coord-copy : (d limit : ℕ) (x y : Compass) (s : List ℕ) → length s ≡ d + 6 →
+    Finds (readCoord d limit x y s) (λ c. Copy (coordPlus d s) s (coordText d c))
 unfolding lettered readCoord coordPlus coordText
 coord-copy d limit x y s l =
     finds-bind (rw zero-add at (nat-copy 0 d 255 s (omega arith))) (λ g cg.

@@ -1,5 +1,5 @@
--- A text and what is printed for it, put together column by column: one law for each way of putting texts together, so that a
--- proof has the shape of its printer.
+-- A text and what is printed for it, put together column by column: one law for each way of putting texts together, so
+-- that a proof has the shape of its printer.
 use Prim.Native.Nat.{ℕ, _+_, _<_}
 use mathlib.Core.Path.{_≡_, refl, sym, ap, _∙_}
 use mathlib.Core.Bool.{Bool, false}
@@ -8,11 +8,10 @@ use native.Mathlib.Omega.{arith}
 use lib.ListN.{length, take, drop, length-append}
 use lib.Seq.{take-at, drop-at}
 use Rattle.text.specs.Res.{Res, pick, _∨?_}
-use Rattle.text.specs.Line.{byte}
+use Rattle.text.specs.Line.{byte, cut}
 use Rattle.text.proofs.Steps.{neither}
-use Rattle.text.proofs.Finds.{Finds}
-use Rattle.field.specs.Field.{cut}
-use Rattle.promises.proofs.Columns.{joined, joined-byte, to-end, finds-map}
+use Rattle.text.proofs.Finds.{Finds, finds-map}
+use Rattle.promises.proofs.Columns.{joined, joined-byte, to-end}
 
 -- t is printed for the text s: it has the length of s, and is s itself exactly where s is not odd
 pub record Copy (odd : Bool) (s t : List ℕ) : Type 0 where
@@ -43,7 +42,8 @@ behind {s} {t} {u} {v} c d = record {
 
 module _ (s : List ℕ) (a : ℕ) {o : Bool} {t : List ℕ} where
   -- w columns, and then those behind them
-  pub next : (w : ℕ) {p : Bool} {u : List ℕ} → Copy o (cut a (a + w) s) t → Copy p (drop (a + w) s) u → Copy (o ∨? p) (drop a s) (t ++ u)
+  pub next : (w : ℕ) {p : Bool} {u : List ℕ} → Copy o (cut a (a + w) s) t → Copy p (drop (a + w) s) u →
+      Copy (o ∨? p) (drop a s) (t ++ u)
   next w c d = rw joined at (behind c d)
 
   -- w columns, and the rest as it stands
@@ -60,5 +60,6 @@ module _ (s : List ℕ) (a : ℕ) {o : Bool} {t : List ℕ} where
   letter l h e c = let j : (l ∷ []) ++ drop (a + 1) s ≡ drop a s = rw e (joined-byte a s h) in rw j at (behind (itself (l ∷ [])) c)
 
 -- whatever is found has the text u, and u is printed for s
-pub finds-copy : {A : Type 0} {m : Res A} (text : A → List ℕ) {o : Bool} {s u : List ℕ} → Finds m (λ v. text v ≡ u) → Copy o s u → Finds m (λ v. Copy o s (text v))
+pub finds-copy : {A : Type 0} {m : Res A} (text : A → List ℕ) {o : Bool} {s u : List ℕ} → Finds m (λ v. text v ≡ u) →
+    Copy o s u → Finds m (λ v. Copy o s (text v))
 finds-copy text f c = finds-map f (λ v e. rw e c)

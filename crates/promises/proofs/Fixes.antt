@@ -5,11 +5,11 @@ use mathlib.Core.List.{List, _++_}
 use native.Mathlib.Omega.{arith}
 use lib.ListN.{length, drop}
 use Rattle.text.specs.Res.{_∨?_}
-use Rattle.text.specs.Line.{byte}
+use Rattle.text.specs.Line.{byte, cut}
 use Rattle.text.specs.Number.{signed}
 use Rattle.text.proofs.Steps.{is≤, is=, on}
 use Rattle.text.proofs.Finds.{Finds, finds-ok, finds-no, finds-bind, finds-guard, finds-pick}
-use Rattle.field.specs.Field.{cut, asciiIn, ascii}
+use Rattle.field.specs.Field.{asciiIn, ascii}
 use Rattle.b_record.specs.BRecord.{fixLetter, fixOf, readHeights, readFix, readB, fixText, bBody, bText}
 use Rattle.promises.specs.Odd.{signedOdd, fixOdd}
 use Rattle.promises.proofs.Columns.{finds-columns}

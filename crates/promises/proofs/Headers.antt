@@ -9,13 +9,14 @@ use lib.ListN.{length, drop, length-drop}
 use lib.Seq.{getD-drop}
 use borrow.Author.Tests.{eqb-false}
 use Rattle.text.specs.Res.{ok, bind, pick, _=?_}
-use Rattle.text.specs.Line.{byte}
+use Rattle.text.specs.Line.{byte, cut}
 use Rattle.part.specs.Part.{bytesOf, findMaybe, textOf, partText, maybeText}
 use Rattle.part.specs.declared.MaybePart.the-variants.{Missing}
 use Rattle.text.proofs.Steps.{is≤, is=, yes≤, both, on, first}
 use Rattle.text.proofs.Finds.{Finds, finds-ok, finds-guard}
-use Rattle.field.specs.Field.{isAscii, cut, asciiIn}
-use Rattle.h_record.specs.HRecord.{sourceByte, sourceOf, colonIn, named, readH, charText, nameText, dataText, hBody, hText}
+use Rattle.field.specs.Field.{isAscii, asciiIn}
+use Rattle.h_record.specs.HRecord.{sourceByte, sourceOf, colonIn, named, readH, charText, nameText, dataText, hBody}
+use Rattle.h_record.specs.HRecord.{hText}
 use Rattle.h_record.proofs.Colons.{colon-inside}
 use Rattle.log.proofs.Ends.{either}
 use Rattle.promises.proofs.Columns.{joined, joined-byte}
@@ -53,7 +54,8 @@ module _ (s : List ℕ) (b : byte 0 s ≡ 72) (l : 6 ≤ length s) (ascii : isAs
   source-text = rw source-same (sym (first _ (yes≤ (second-ascii s ascii)) refl))
 
   -- the letter, source and mnemonic, and what stands behind them
-  head : (u : List ℕ) → u ≡ drop 5 s → ok s ≡ ok ((72 ∷ []) ++ (charText (sourceByte (sourceOf (byte 1 s))) ++ (cut 2 5 s ++ u)))
+  head : (u : List ℕ) → u ≡ drop 5 s →
+      ok s ≡ ok ((72 ∷ []) ++ (charText (sourceByte (sourceOf (byte 1 s))) ++ (cut 2 5 s ++ u)))
   head u e = rw (e, source-text, joined 2 3 s, joined-byte 1 s (omega arith), ← b) (ap ok (sym (joined-byte 0 s (omega arith))))
 
   -- a colon n bytes behind column 5 parts name and data; there is none where that is the line's end

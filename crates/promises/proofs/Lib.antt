@@ -15,4 +15,5 @@ pub mod Tasks
 pub mod Headers
 pub mod Tables
 pub mod Lines
+pub mod Shown
 pub mod Exceptions

@@ -32,7 +32,8 @@ module _ (s : List ℕ) where
   abbrev t : Table
   t = tableRead (readTable s) .table
 
-  c-again : byte 0 s ≡ 67 → Finds (readC s) (λ r. Again (pick (turns s) (turnpointOdd s) (declarationOdd s)) s (recordText r t s))
+  c-again : byte 0 s ≡ 67 →
+      Finds (readC s) (λ r. Again (pick (turns s) (turnpointOdd s) (declarationOdd s)) s (recordText r t s))
   unfolding readC recordText pick
   c-again h =
       finds-guard _ (λ _. either (turns s)
@@ -64,7 +65,7 @@ module _ (s : List ℕ) where
       (λ e. rw (na, nb, nc, nh, ni, nj, e) (finds-ok (always whole-text)))
       (λ e. rw (na, nb, nc, nh, ni, nj, e) (finds-ok (always whole-text)))))))))
 
-  line-again : Finds (readLine s) (λ r. Again (lineOdd s) s (recordText r t s))
+  pub line-again : Finds (readLine s) (λ r. Again (lineOdd s) s (recordText r t s))
   unfolding readLine
   line-again = finds-guard _ (λ _. kind-again)
 

@@ -1,5 +1,5 @@
 -- A lookup by name refuses in the named cases alone, and gives the stated value in every other.
-use Prim.Native.Nat.{ℕ, _+_, _-_, _≤_}
+use Prim.Native.Nat.{ℕ, _+_}
 use mathlib.Core.Path.{_≡_, refl, sym, ap, subst, _∙_}
 use mathlib.Core.Bool.{Bool, true, false}
 use mathlib.Core.List.{List, [], _∷_}
@@ -18,22 +18,28 @@ use Rattle.extension.specs.Value.{findValue}
 use Rattle.extension.specs.declared.Extension.{Extension}
 use Rattle.held.specs.Held.{sameName, firstNamed, define, lookUp}
 use Rattle.held.specs.declared.Held.{Held}
-use Rattle.promises.specs.Lookup.{Defined, Why, no-table, over-99, no-name, outside, start-in-base, end-before-start, past-the-rest, Refuses, Gives}
+use Rattle.promises.specs.Lookup.{Defined, Why, no-table, over-99, no-name, Refuses, Gives}
+use Rattle.promises.specs.Lookup.{outside, start-in-base, end-before-start, past-the-rest}
 
 -- Where a row of answers refuses with n, W holds: one law for each way of putting answers in a row.
 pub record Stops {A : Type 0} (m : Res A) (W : Refusal → Type 0) : Type 0 where
   pub stopped : (n : Refusal) → m ≡ no n → W n
 
 module _ {A : Type 0} {W : Refusal → Type 0} where
+  -- what is found refuses nothing
   stops-ok : {a : A} → Stops (ok a) W
   stops-ok = record { stopped = λ n e. let z : _≡_ {A = ℕ} 0 1 = cc in absurd (omega arith) }
 
-  stops-guard : (n : Refusal) {t : Bool} {m : Res A} → (t ≡ false → W n) → (t ≡ true → Stops m W) → Stops (guard t n m) W
+  -- a test that fails refuses, or what stands behind it
+  stops-guard : (n : Refusal) {t : Bool} {m : Res A} → (t ≡ false → W n) → (t ≡ true → Stops m W)
+      → Stops (guard t n m) W
   unfolding guard
   stops-guard n {t = true} p q = q refl
   stops-guard n {t = false} p q = record { stopped = λ k e. let same : n ≡ k = cc in subst W same (p refl) }
 
-  stops-bind : {B : Type 0} {m : Res B} {f : B → Res A} → Stops m W → ((b : B) → m ≡ ok b → Stops (f b) W) → Stops (bind m f) W
+  -- the first refuses, or what is made of what it found
+  stops-bind : {B : Type 0} {m : Res B} {f : B → Res A} → Stops m W → ((b : B) → m ≡ ok b → Stops (f b) W)
+      → Stops (bind m f) W
   unfolding bind
   stops-bind {m = ok b} p q = q b refl
   stops-bind {m = no n} p q = record { stopped = λ k e. let same : n ≡ k = cc in p .stopped k (ap no same) }
@@ -48,10 +54,12 @@ module _ (base : ℕ) (rest : Part) (h : Held) (name : Mnemonic) (s : List ℕ) 
   first-8 [] n e = cc
   first-8 (d ∷ ds) n e = by (sameName (d .mnemonic) name) e (first-8 ds n)
     where
-      by : (t : Bool) → pick t (ok d) (firstNamed name ds) ≡ no n → (firstNamed name ds ≡ no n → n ≡ NoDefinition) → n ≡ NoDefinition
+      by : (t : Bool) → pick t (ok d) (firstNamed name ds) ≡ no n → (firstNamed name ds ≡ no n → n ≡ NoDefinition)
+          → n ≡ NoDefinition
       by true e more = let z : _≡_ {A = ℕ} 0 1 = cc in absurd (omega arith)
       by false e more = more e
 
+  -- no definition is found in the first three cases alone
   stops-define : Stops (define h name) W
   unfolding define
   stops-define =
@@ -59,23 +67,28 @@ module _ (base : ℕ) (rest : Part) (h : Held) (name : Mnemonic) (s : List ℕ) 
       stops-guard _ (λ k. over-99 refl (isnt≤ k)) (λ k.
       record { stopped = λ n f. let i = first-8 (defsOf (h .table)) n f in no-name i (f ∙ ap no i) }))
 
+  -- one that is found is the table's
   defined : (e : Extension) → define h name ≡ ok e → Defined base rest h name s e
   unfolding define
   defined e d =
       let all : Finds (define h name) (Defined base rest h name s) =
-      finds-guard _ (λ t. finds-guard _ (λ k. record { found = λ x f. record { in-force = t; count = is≤ k; first = f } })) in
+      finds-guard _ (λ t. finds-guard _ (λ k.
+      record { found = λ x f. record { in-force = t; count = is≤ k; first = f } })) in
       all .found e d
 
+  -- the cases, in the order of the checks
   pub refuses : Refuses base rest h name s
   unfolding lookUp findValue findPart
   refuses n r =
       stops-bind stops-define (λ e d.
       stops-bind (stops-guard _ (λ k. outside refl (isnt≤ k)) (λ k. stops-ok)) (λ q f.
       let same : q ≡ rest = inside rest s (sym f) .same in
-      stops-guard _ (λ k. start-in-base refl e (defined e d) (omega (arith, isnt≤ {a = base + 1} {b = e .«start_byte»} k))) (λ k.
+      stops-guard _ (λ k.
+      start-in-base refl e (defined e d) (omega (arith, isnt≤ {a = base + 1} {b = e .«start_byte»} k))) (λ k.
       stops-guard _ (λ k. end-before-start refl e (defined e d) (isnt≤ k)) (λ k.
       stops-guard _ (λ k. past-the-rest refl e (defined e d) (rw (← same) (isnt≤ k))) (λ k. stops-ok))))) .stopped n r
 
+  -- all checks pass in every other
   pub gives : Gives base rest h name s
   unfolding lookUp define findValue findPart
   gives e d i b o l =

@@ -10,7 +10,7 @@ use Rattle.text.specs.Res.{Res, ok, bind, pick, _≤?_}
 use Rattle.part.specs.Part.{bytesOf, findPart, findMaybe, textOf, partText, maybeText, restFrom, nameFrom}
 use Rattle.text.proofs.Steps.{on, pass, yes≤, is≤}
 use Rattle.text.proofs.Lines.{cut-rest}
-use Rattle.field.specs.Field.{cut}
+use Rattle.text.specs.Line.{cut}
 use Rattle.log.proofs.Ends.{either}
 use Rattle.promises.proofs.Copies.{Copy}
 

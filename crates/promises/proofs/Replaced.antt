@@ -5,7 +5,7 @@ use mathlib.Core.Bool.{Bool, true, false, not}
 use mathlib.Core.List.{List, [], _∷_, _++_}
 use lib.ListN.{length}
 use Rattle.text.specs.Res.{Res, ok, no, pick, _=?_, _∨?_}
-use Rattle.text.specs.Line.{byte}
+use Rattle.text.specs.Line.{byte, begins}
 use Rattle.text.proofs.Steps.{is=, both, pass, on}
 use Rattle.table.specs.Table.{readTable}
 use Rattle.extension.specs.declared.Extension.{Extension}
@@ -16,13 +16,14 @@ use Rattle.log.specs.Line.{lineText}
 use Rattle.log.specs.Log.{chunks, readings}
 use Rattle.log.specs.Demand.{Moved, Each, All, some, Kept, NoTable}
 use Rattle.log.proofs.Replaced.{demand-3}
-use Rattle.held.specs.Held.{isSet, noTable, setBy, begins}
+use Rattle.held.specs.Held.{isSet, noTable, setBy}
 use Rattle.held.proofs.Lookups.{look-none, refused-leaves-none}
 use Rattle.walk.specs.Readings.{reader, letterI, Line-read}
 use Rattle.promises.specs.Demand3.{ValuesStay, NoValues, NoneAccepted, afterRun, Demand3}
 
 -- the table and the text agree, so each lookup does
-values-stay : (n₁ n₂ p₁ p₂ : ℕ) (same : Bool) (xs ys : List Line-read) → Each reader (Moved reader n₁ n₂ p₁ p₂) xs ys → Kept reader letterI same xs ys → ValuesStay same xs ys
+values-stay : (n₁ n₂ p₁ p₂ : ℕ) (same : Bool) (xs ys : List Line-read) → Each reader (Moved reader n₁ n₂ p₁ p₂) xs ys →
+    Kept reader letterI same xs ys → ValuesStay same xs ys
 values-stay n₁ n₂ p₁ p₂ same [] [] m k = tt
 values-stay n₁ n₂ p₁ p₂ same [] (y ∷ ys) m k = m
 values-stay n₁ n₂ p₁ p₂ same (x ∷ xs) [] m k = m
@@ -35,7 +36,8 @@ unfolding begins readLine kindOf readKind pick _=?_
 i-accepted s ds b e = let i : byte 0 s ≡ 73 = is= (both b .1) in sym (pass _ (both b .0) (rw i (on _ (sym e) refl)))
 
 -- so one that is not accepted sets no table
-sets-none : (s : List ℕ) → ((r : Record) → readLine s ≡ ok r → ⊥) → begins 73 s ≡ true → isSet (setBy (readTable s) .slot) ≡ false
+sets-none : (s : List ℕ) → ((r : Record) → readLine s ≡ ok r → ⊥) → begins 73 s ≡ true →
+    isSet (setBy (readTable s) .slot) ≡ false
 sets-none s h b = by (readTable s) refl
   where
     by : (m : Res (List Extension)) → readTable s ≡ m → isSet (setBy (readTable s) .slot) ≡ false

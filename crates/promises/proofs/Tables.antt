@@ -6,18 +6,18 @@ use native.Mathlib.Omega.{arith}
 use lib.ListN.{length, drop, replicate, length-drop}
 use lib.Seq.{take-at}
 use Rattle.text.specs.Res.{ok}
-use Rattle.text.specs.Line.{byte}
+use Rattle.text.specs.Line.{byte, cut, columns}
 use Rattle.text.specs.Number.{readNat, padded, plus}
 use Rattle.text.proofs.Steps.{is≤, is=, yes≤, pass}
-use Rattle.text.proofs.Finds.{Finds, finds-ok, finds-bind, finds-guard}
-use Rattle.field.specs.Field.{cut, columns, asciiIn, ascii, mnemonicText}
-use Rattle.field.proofs.Columns.{wide}
+use Rattle.text.proofs.Finds.{Finds, finds-map, finds-ok, finds-bind, finds-guard}
+use Rattle.field.specs.Field.{asciiIn, ascii, mnemonicText}
+use Rattle.text.proofs.Lines.{cut-length}
 use Rattle.extension.specs.Extension.{readDefinition, readExtension, extensionText}
 use Rattle.table.specs.Table.{empty, tableOf, readDefs, readBody, readTable, defsOf, defsText, tableBody, tableText}
 use Rattle.extension.specs.declared.Extension.{Extension}
 use Rattle.table.proofs.Counts.{two-characters}
 use Rattle.promises.specs.Odd.{definitionPlus, defsPlus, tableOdd}
-use Rattle.promises.proofs.Columns.{joined-byte, last-byte, finds-map, finds-columns, finds-rest}
+use Rattle.promises.proofs.Columns.{joined-byte, last-byte, finds-columns, finds-rest}
 use Rattle.promises.proofs.Copies.{Copy, itself, next, rest, letter}
 use Rattle.promises.proofs.Parts.{Again, again}
 use Rattle.promises.proofs.Numbers.{nat-copy}
@@ -34,7 +34,8 @@ definition-copy s =
     finds-guard _ (λ _. finds-ok (next s 0 2 cs (rw (← name) at (rest s 2 2 ce)))))))
 
 -- k of them in turn
-defs-copy : (k : ℕ) (s : List ℕ) → length s ≡ 7 * k → Finds (readDefs k s) (λ es. Copy (defsPlus k s) s (defsText es) × (length es ≡ k))
+defs-copy : (k : ℕ) (s : List ℕ) → length s ≡ 7 * k →
+    Finds (readDefs k s) (λ es. Copy (defsPlus k s) s (defsText es) × (length es ≡ k))
 unfolding readDefs defsPlus defsText
 defs-copy zero [] l = finds-ok (itself [], refl)
 defs-copy zero (b ∷ s) l = absurd (omega arith)
@@ -45,15 +46,18 @@ defs-copy (suc k) s l =
 
 -- ---- the table
 
-table-text : (b : ℕ) (ds : List Extension) → length ds ≤ 99 → ok ((b ∷ []) ++ (padded 2 (length ds) ++ defsText ds)) ≡ tableText b (tableOf ds)
+table-text : (b : ℕ) (ds : List Extension) → length ds ≤ 99 →
+    ok ((b ∷ []) ++ (padded 2 (length ds) ++ defsText ds)) ≡ tableText b (tableOf ds)
 unfolding tableText tableBody tableOf defsOf
 table-text b ds h = pass _ (yes≤ h) (rw (take-at ds (replicate (99 - length ds) empty) (length ds) refl))
 
-count-most : (s : List ℕ) → 3 ≤ length s → Finds (columns 1 3 (readNat 255) s) (λ n. Copy (plus (cut 1 3 s)) (cut 1 3 s) (padded 2 n) × (n ≤ 99))
+count-most : (s : List ℕ) → 3 ≤ length s →
+    Finds (columns 1 3 (readNat 255) s) (λ n. Copy (plus (cut 1 3 s)) (cut 1 3 s) (padded 2 n) × (n ≤ 99))
 unfolding columns
-count-most s l = record { found = λ n e. (nat-copy 1 2 255 s l .found n e, two-characters 255 (cut 1 3 s) (omega (arith, wide 1 2 s l)) (sym e)) }
+count-most s l = record { found = λ n e. (nat-copy 1 2 255 s l .found n e, two-characters 255 (cut 1 3 s) (omega (arith, cut-length 1 2 s l)) (sym e)) }
 
-pub table-again : (s : List ℕ) (b : ℕ) → byte 0 s ≡ b → Finds (readTable s) (λ ds. Again (tableOdd s) s (tableText b (tableOf ds)))
+pub table-again : (s : List ℕ) (b : ℕ) → byte 0 s ≡ b →
+    Finds (readTable s) (λ ds. Again (tableOdd s) s (tableText b (tableOf ds)))
 unfolding readTable ascii asciiIn readBody tableOdd
 table-again s b h =
     finds-guard _ (λ long. let l : 3 ≤ length s = is≤ long in

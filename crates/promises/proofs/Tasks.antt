@@ -6,13 +6,14 @@ use mathlib.Core.List.{List, [], _∷_, _++_}
 use native.Mathlib.Omega.{arith}
 use lib.ListN.{length, drop, replicate}
 use Rattle.text.specs.Res.{pick, _=?_, _∨?_}
-use Rattle.text.specs.Line.{byte}
+use Rattle.text.specs.Line.{byte, cut}
 use Rattle.text.specs.Number.{padded, signed, zeros, plus}
 use Rattle.text.proofs.Steps.{is≤, is=, both, on}
 use Rattle.text.proofs.Finds.{Finds, finds-ok, finds-bind, finds-guard, finds-pick}
-use Rattle.field.specs.Field.{cut, asciiIn}
-use Rattle.field.proofs.Columns.{wide}
-use Rattle.c_record.specs.CRecord.{readFlight, flightText, readTask, taskText, readDeclaration, declarationBody, declarationText, readTurnpoint, turnpointBody, turnpointText}
+use Rattle.field.specs.Field.{asciiIn}
+use Rattle.text.proofs.Lines.{cut-length}
+use Rattle.c_record.specs.CRecord.{readFlight, flightText, readTask, taskText, readDeclaration, declarationBody}
+use Rattle.c_record.specs.CRecord.{declarationText, readTurnpoint, turnpointBody, turnpointText}
 use Rattle.promises.specs.Odd.{threePlus, signedOdd, declarationOdd, turnpointOdd}
 use Rattle.promises.proofs.Columns.{finds-columns}
 use Rattle.promises.proofs.Copies.{Copy, itself, next, rest, letter}
@@ -29,7 +30,8 @@ zeros-all [] z = refl
 zeros-all (b ∷ s) z = let k = both z in rw (is= (k .0), zeros-all s (k .1))
 
 -- no flight date was written as it prints
-none-copy : (s : List ℕ) → 48 ∷ 48 ∷ 48 ∷ 48 ∷ 48 ∷ 48 ∷ [] ≡ s → Copy (threePlus s) s (48 ∷ 48 ∷ 48 ∷ 48 ∷ 48 ∷ 48 ∷ [])
+none-copy : (s : List ℕ) → 48 ∷ 48 ∷ 48 ∷ 48 ∷ 48 ∷ 48 ∷ [] ≡ s →
+    Copy (threePlus s) s (48 ∷ 48 ∷ 48 ∷ 48 ∷ 48 ∷ 48 ∷ [])
 unfolding threePlus plus cut _=?_ _∨?_ pick
 none-copy s e = rw (← e) (itself _)
 
@@ -48,21 +50,23 @@ task-copy s l =
     finds-bind (int-copy 23 2 127 s (omega arith)) (λ count cc.
     finds-ok (next s 19 4 ci (rest s 23 2 cc))))
 
-pub declaration-again : (s : List ℕ) → byte 0 s ≡ 67 → Finds (readDeclaration s) (λ r. Again (declarationOdd s) s (declarationText r s))
+pub declaration-again : (s : List ℕ) → byte 0 s ≡ 67 →
+    Finds (readDeclaration s) (λ r. Again (declarationOdd s) s (declarationText r s))
 unfolding readDeclaration asciiIn declarationOdd declarationText declarationBody taskText
 declaration-again s b =
     finds-guard _ (λ long. let l : 25 ≤ length s = is≤ long in
     finds-guard _ (λ _.
     finds-bind (finds-columns _ s 1 7 (date-copy (cut 1 7 s))) (λ date cd.
     finds-bind (finds-columns _ s 7 13 (time-copy (cut 7 13 s))) (λ time ct.
-    finds-bind (finds-columns _ s 13 19 (flight-copy (cut 13 19 s) (wide 13 6 s (omega arith)))) (λ flight cf.
+    finds-bind (finds-columns _ s 13 19 (flight-copy (cut 13 19 s) (cut-length 13 6 s (omega arith)))) (λ flight cf.
     finds-bind (task-copy s l) (λ task ck.
     finds-ok (again (on _ (name-text 25 s l) refl)
     (letter s 0 67 (omega arith) (sym b) (next s 1 6 cd (next s 7 6 ct (next s 13 6 cf ck)))))))))))
 
 -- ---- turnpoints
 
-pub turnpoint-again : (s : List ℕ) → byte 0 s ≡ 67 → Finds (readTurnpoint s) (λ r. Again (turnpointOdd s) s (turnpointText r s))
+pub turnpoint-again : (s : List ℕ) → byte 0 s ≡ 67 →
+    Finds (readTurnpoint s) (λ r. Again (turnpointOdd s) s (turnpointText r s))
 unfolding readTurnpoint asciiIn turnpointOdd turnpointText turnpointBody
 turnpoint-again s b =
     finds-guard _ (λ long. let l : 18 ≤ length s = is≤ long in

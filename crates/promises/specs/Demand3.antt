@@ -14,7 +14,8 @@ use Rattle.records.specs.declared.Record.the-variants as rec
 use Rattle.log.specs.Line.{lineText}
 use Rattle.log.specs.Log.{chunks, closed, readings}
 use Rattle.log.specs.Demand.{Moved, Each, All, some}
-use Rattle.held.specs.Held.{begins, lookUp}
+use Rattle.text.specs.Line.{begins}
+use Rattle.held.specs.Held.{lookUp}
 use Rattle.walk.specs.Readings.{reader, letterI, Line-read}
 
 -- On an accepted B line every lookup by name answers in x what it answers in y.
@@ -44,7 +45,8 @@ NoneAccepted (c ∷ cs) = (begins 73 (lineText c) ≡ true → (r : Record) → 
 abbrev pub afterRun : List ℕ → List ℕ → List ℕ → List Line-read
 afterRun pre run post = drop (length (chunks pre) + length (chunks run)) (readings reader (pre ++ (run ++ post)))
 
--- Of a log that begins with the whole lines `pre`, the run `old` of whole lines behind them is replaced by the run `new`.
+-- Of a log that begins with the whole lines `pre`, the run `old` of whole lines behind them is replaced by the run
+-- `new`.
 pub record Replaced (pre old new post : List ℕ) : Type 0 where
   -- Lines before it read as before.
   pub before : take (length (chunks pre)) (readings reader (pre ++ (new ++ post))) ≡ take (length (chunks pre)) (readings reader (pre ++ (old ++ post)))
@@ -53,15 +55,17 @@ pub record Replaced (pre old new post : List ℕ) : Type 0 where
       Each reader (Moved reader (length (chunks new)) (length (chunks old)) (length new) (length old))
       (afterRun pre new post)
       (afterRun pre old post)
-  -- If neither run has a line beginning with I, their extension values stay too; if one has, they stay from the next line after
-  -- the run that begins with I.
+  -- If neither run has a line beginning with I, their extension values stay too; if one has, they stay from the next
+  -- line after the run that begins with I.
   pub values :
       ValuesStay (not (some reader letterI (chunks new) ∨? some reader letterI (chunks old)))
       (afterRun pre new post)
       (afterRun pre old post)
-  -- If the removed run held all the log's I lines and the new run has none that is accepted, every lookup of an extension by
-  -- name on an accepted B line is refused. (A refused line that begins with I may stay anywhere: it sets no table.)
-  pub refused : NoneAccepted (chunks pre) → NoneAccepted (chunks new) → NoneAccepted (chunks post) → All reader NoValues (readings reader (pre ++ (new ++ post)))
+  -- If the removed run held all the log's I lines and the new run has none that is accepted, every lookup of an
+  -- extension by name on an accepted B line is refused. (A refused line that begins with I may stay anywhere: it sets
+  -- no table.)
+  pub refused : NoneAccepted (chunks pre) → NoneAccepted (chunks new) → NoneAccepted (chunks post) →
+      All reader NoValues (readings reader (pre ++ (new ++ post)))
 
 abbrev pub Demand3 : Type 0
 Demand3 = (pre old new post : List ℕ) → closed pre ≡ true → closed old ≡ true → closed new ≡ true → Replaced pre old new post

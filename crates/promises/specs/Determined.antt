@@ -1,6 +1,7 @@
--- Answers are determined. Every public function states its answer in one of five ways: r ≡ a definition; a view of r ≡ a
--- definition; Shows, of a slice; Wrote, of a piece; Prints, of a printer. In each way, any two permitted answers are equal, and so
--- are the bytes that they leave.
+-- Answers are determined. Every public function states its answer in one of seven ways: r ≡ a definition; a view of r ≡
+-- a definition; Shows, of a slice; Wrote, of a piece; Prints, of a printer; the answer and the bytes it leaves, as one
+-- value ≡ a definition; Took, of lines taken into lent bytes. In each way, any two permitted answers are equal, and so
+-- are the bytes that they leave. (Of the first there is nothing to prove.)
 use Prim.Native.Nat.{ℕ}
 use mathlib.Core.Path.{_≡_}
 use mathlib.Core.List.{List}
@@ -21,6 +22,10 @@ use Rattle.b_record.specs.BRecord.{fixRes, bRes}
 use Rattle.c_record.specs.CRecord.{declarationRes, turnpointRes}
 use Rattle.h_record.specs.HRecord.{hRes}
 use Rattle.records.specs.Record.{readingRes}
+use Rattle.log.specs.Log.{Reader, LineRead}
+use Rattle.log.specs.Fold.{Carried}
+use Rattle.log.specs.Taking.{Took}
+use Rattle.bench_loops.specs.Timed.{Out}
 
 -- Two answers with one view are equal.
 abbrev pub Tells : {A E : Type 0} → (E → Res A) → Type 0
@@ -45,6 +50,14 @@ pub record Determined : Type 1 where
   pub turnpoint : Tells turnpointRes
   pub h : Tells hRes
   pub reading : Tells readingRes
-  pub shows : {line r₁ r₂ : RefT (List ℕ)} {p : Part} → Shows line p r₁ → Shows line p r₂ → (now r₁ ≡ now r₂) × (r₁ .ptr ≡ r₂ .ptr)
+  pub shows : {line r₁ r₂ : RefT (List ℕ)} {p : Part} → Shows line p r₁ → Shows line p r₂ →
+      (now r₁ ≡ now r₂) × (r₁ .ptr ≡ r₂ .ptr)
   pub wrote : {b t b₁ b₂ : List ℕ} {at r₁ r₂ : ℕ} → Wrote b at t b₁ r₁ → Wrote b at t b₂ r₂ → (r₁ ≡ r₂) × (b₁ ≡ b₂)
-  pub prints : {m : Res (List ℕ)} {b b₁ b₂ : List ℕ} {r₁ r₂ : Printed} → Prints m b b₁ r₁ → Prints m b b₂ r₂ → (r₁ ≡ r₂) × (b₁ ≡ b₂)
+  pub prints : {m : Res (List ℕ)} {b b₁ b₂ : List ℕ} {r₁ r₂ : Printed} → Prints m b b₁ r₁ → Prints m b b₂ r₂ →
+      (r₁ ≡ r₂) × (b₁ ≡ b₂)
+  pub outs : {o : Out} {r₁ r₂ : ℕ} {b₁ b₂ : List ℕ} → o ≡ record { sum = r₁; bytes = b₁ } →
+      o ≡ record { sum = r₂; bytes = b₂ } →
+      (r₁ ≡ r₂) × (b₁ ≡ b₂)
+  pub took : {A H T : Type 0} {R : Reader A H} {step : T → LineRead A H → T} {f : LineRead A H → List ℕ} {c c₁ c₂ : Carried H T}
+      {s b b₁ b₂ : List ℕ} {n₁ n₂ e₁ e₂ : ℕ} → Took R step f c s b b₁ c₁ n₁ e₁ → Took R step f c s b b₂ c₂ n₂ e₂ →
+      (c₁ ≡ c₂) × (n₁ ≡ n₂) × (e₁ ≡ e₂) × (b₁ ≡ b₂)

@@ -4,4 +4,6 @@ pub mod Back
 pub mod Starred
 pub mod Demand3
 pub mod Lookup
+pub mod Walks
+pub mod Fields
 pub mod Determined

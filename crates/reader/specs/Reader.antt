@@ -1,11 +1,18 @@
 -- A reader of a lent log, and what it shows at its place.
-use Prim.Native.Nat.{ℕ}
-use mathlib.Core.List.{List}
-use denote.Ref.{RefT}
+use Prim.Native.Nat.{ℕ, zero, suc}
+use mathlib.Core.List.{List, [], _∷_}
+use denote.Ref.{RefT, now}
 use Rattle.part.specs.Part.{bytesOf, findPart, shown}
 use Rattle.part.specs.declared.Part.{Part}
 use Rattle.log.specs.Line.{cutAt}
+use Rattle.records.specs.Record.{readLine}
+use Rattle.held.specs.Held.{heldAfter}
+use Rattle.held.specs.declared.Held.{Held}
+use Rattle.walk.specs.Cursor.{nextOf}
+use Rattle.walk.specs.Readings.{Line-read}
 use Rattle.walk.specs.declared.cursor.Cursor.{Cursor}
+use Rattle.walk.specs.declared.cursor.Next.{Next}
+use Rattle.walk.specs.declared.cursor.Next.the-variants.{Line, Done}
 use Rattle.reader.specs.declared.LogReader.{LogReader}
 
 -- A reader of the lent log at a cursor of the walk.
@@ -23,3 +30,26 @@ partAt place s = shown (findPart (cutAt place s .line) s)
 -- The text of that line.
 abbrev pub textAt : ℕ → List ℕ → List ℕ
 textAt place s = bytesOf (partAt place s) s
+
+-- ---- what is handed out
+
+-- The reading of the line that `next_line` found, in front of what is read from the cursor after it.
+unfoldable pub handedBy : List ℕ → Held → ℕ → Next → (Cursor → List Line-read) → List Line-read
+handedBy s h place Done later = []
+handedBy s h place (Line cut after) later =
+    record {
+      number = after .number;
+      place = cut .line .start;
+      line = textAt place s;
+      answer = readLine (textAt place s);
+      held = heldAfter 73 h (textAt place s);
+    }
+    ∷ later after
+
+-- What k turns of the desk hand out, from a reader and what is held there: `next_line` finds the line, `line` shows its
+-- text, to which `Record::parse_line` answers, `table` says what is held after it, and `moved` goes on.
+unfoldable pub handedOut : ℕ → LogReader → Held → List Line-read
+handedOut zero r h = []
+handedOut (suc k) r h =
+    handedBy (now (r .log)) h (r .place) (nextOf (now (r .log)) (cursorOf r))
+    (λ after. handedOut k (readerAt (r .log) after) (heldAfter 73 h (textAt (r .place) (now (r .log)))))

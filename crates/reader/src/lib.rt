@@ -74,10 +74,3 @@ pub fn table<'a>(r: LogReader<'a>, held: Held) -> Held
 {
     table_at(r.log, r.place, held)
 }
-
-// The first line of a log, by a reader of it.
-pub fn first_line(log: &[u8]) -> Next
-    ensures { λ n. ⌜ n ≡ nextOf (now (log .entry)) start ⌝ }
-{
-    next_line(open(log))
-}

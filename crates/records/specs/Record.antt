@@ -1,23 +1,35 @@
 -- Lines of every kind: an empty line is 1, then the first byte chooses.
 use Prim.Native.Nat.{ℕ}
 use mathlib.Core.Bool.{Bool, true}
-use mathlib.Core.List.{List}
+use mathlib.Core.List.{List, []}
 use lib.ListN.{length}
 use Rattle.text.specs.Res.{Res, ok, no, bind, guard, pick, numberOf, _≤?_, _=?_, _∨?_}
 use Rattle.text.specs.Line.{byte}
-use Rattle.part.specs.Part.{partText}
+use Rattle.part.specs.Part.{partText, partBytes, maybeBytes}
 use Rattle.text.specs.declared.refusal.Refusal.the-variants.{Syntax}
 use Rattle.part.specs.declared.Part.{Part}
-use Rattle.table.specs.Table.{readTable, tableText, tableRead}
+use Rattle.table.specs.Table.{tableOf, readTable, tableBody, tableText, tableRead}
 use Rattle.table.specs.declared.Table.{Table}
-use Rattle.a_record.specs.ARecord.{readA, aText}
-use Rattle.b_record.specs.BRecord.{readB, bText, bBook}
-use Rattle.c_record.specs.CRecord.{turns, readDeclaration, declarationText, declarationBook, readTurnpoint, turnpointText, turnpointBook}
-use Rattle.h_record.specs.HRecord.{readH, hText}
+use Rattle.a_record.specs.ARecord.{readA, aBody, aText}
+use Rattle.b_record.specs.BRecord.{readB, bBody, bText, bBook}
+use Rattle.c_record.specs.CRecord.{
+  turns,
+  readDeclaration,
+  declarationBody,
+  declarationText,
+  declarationBook,
+  readTurnpoint,
+  turnpointBody,
+  turnpointText,
+  turnpointBook,
+}
+use Rattle.h_record.specs.HRecord.{readH, hBody, hText}
 use Rattle.records.specs.declared.Kind.{Kind}
 use Rattle.records.specs.declared.Kind.the-variants as kind
 use Rattle.records.specs.declared.Record.{Record}
 use Rattle.records.specs.declared.Record.the-variants as rec
+use Rattle.records.specs.declared.MaybeFix.{MaybeFix}
+use Rattle.records.specs.declared.MaybeFix.the-variants as fix
 use Rattle.records.specs.declared.Reading.{Reading}
 use Rattle.records.specs.declared.Reading.the-variants as reading
 
@@ -75,9 +87,55 @@ recordText rec.J t s = tableText 74 t
 recordText (rec.NotTaken p) t s = partText p s
 recordText (rec.Unrecognised p) t s = partText p s
 
--- A line read and printed, its own table beside it.
+-- The same as a piece of a larger text: a part that lies outside the line is left out. For a record as it was read that
+-- is its text (promises, `Shown`).
+unfoldable pub recordPiece : Record → Table → List ℕ → List ℕ
+recordPiece (rec.A r) t s = aBody r (partBytes (r .«unique_id») s) (maybeBytes (r .«id_extension») s)
+recordPiece (rec.B r) t s = bBody r (partBytes (r .rest) s)
+recordPiece (rec.CDeclaration r) t s = declarationBody r (maybeBytes (r .«task_name») s)
+recordPiece (rec.CTurnpoint r) t s = turnpointBody r (maybeBytes (r .«turnpoint_name») s)
+recordPiece (rec.H r) t s = hBody r (partBytes (r .mnemonic) s) (maybeBytes (r .«friendly_name») s) (partBytes (r .«data») s)
+recordPiece rec.I t s = tableBody 73 t
+recordPiece rec.J t s = tableBody 74 t
+recordPiece (rec.NotTaken p) t s = partBytes p s
+recordPiece (rec.Unrecognised p) t s = partBytes p s
+
+-- The table of an I or a J line itself; a record of another kind has an empty one, at which nobody looks.
+unfoldable pub recordTable : Record → List ℕ → Table
+recordTable rec.I s = tableRead (readTable s) .table
+recordTable rec.J s = tableRead (readTable s) .table
+recordTable (rec.A r) s = tableOf []
+recordTable (rec.B r) s = tableOf []
+recordTable (rec.CDeclaration r) s = tableOf []
+recordTable (rec.CTurnpoint r) s = tableOf []
+recordTable (rec.H r) s = tableOf []
+recordTable (rec.NotTaken p) s = tableOf []
+recordTable (rec.Unrecognised p) s = tableOf []
+
+-- The text of the record that a line s was answered with, its own table beside it.
+unfoldable pub answerPrinted : Res Record → List ℕ → Res (List ℕ)
+answerPrinted m s = bind m (λ r. recordText r (recordTable r s) s)
+
+-- A line read and printed.
 unfoldable pub reprinted : List ℕ → Res (List ℕ)
-reprinted s = bind (readLine s) (λ r. recordText r (tableRead (readTable s) .table) s)
+reprinted s = answerPrinted (readLine s) s
+
+-- Whether a record is a fix, and which.
+unfoldable pub recordFix : Record → MaybeFix
+recordFix (rec.B r) = fix.Fix r
+recordFix (rec.A r) = fix.Missing
+recordFix (rec.CDeclaration r) = fix.Missing
+recordFix (rec.CTurnpoint r) = fix.Missing
+recordFix (rec.H r) = fix.Missing
+recordFix rec.I = fix.Missing
+recordFix rec.J = fix.Missing
+recordFix (rec.NotTaken p) = fix.Missing
+recordFix (rec.Unrecognised p) = fix.Missing
+
+-- The fix of an accepted B line. Products that care for fixes alone ask here.
+unfoldable pub answerFix : Res Record → MaybeFix
+answerFix (ok r) = recordFix r
+answerFix (no n) = fix.Missing
 
 -- By the book: times, dates and positions are; other kinds say yes.
 unfoldable pub recordBook : Record → Bool

@@ -1,12 +1,16 @@
 // Lines of every kind, as src/records/mod.rs has them.
 ghost use mathlib.Core.Path.{_≡_};
 ghost use Rattle.text.specs.Res.{bind, ok};
+ghost use Rattle.put.specs.Put.{Wrote};
 ghost use Rattle.print.specs.Print.{Prints};
 ghost use Rattle.table.specs.Table.{readTable};
-ghost use Rattle.records.specs.Record.{kindOf, readC, readLine, recordText, recordBook, acceptedAs, answerOf, readingRes};
+ghost use Rattle.b_record.specs.BRecord.{readB};
+ghost use Rattle.records.specs.Record.{kindOf, readC, readLine, recordText, recordPiece, recordTable, recordBook};
+ghost use Rattle.records.specs.Record.{recordFix, acceptedAs, answerOf, answerFix, readingRes};
 use a_record::ARead;
 use a_record::ARecord;
-use b_quick::parse_fix;
+use b_quick::Quick;
+use b_quick::quick_fix;
 use b_record::BRead;
 use b_record::BRecord;
 use c_record::CRecordDeclaration;
@@ -19,6 +23,7 @@ use h_record::HRecord;
 use part::Part;
 use print::printed::Printed;
 use print::printed::print_part;
+use put::put_part;
 use table::Table;
 use table::Verdict;
 use text::refusal::Refusal;
@@ -39,6 +44,12 @@ pub enum Record {
 pub enum Reading {
     Accepted(Record),
     Refused(Refusal),
+}
+
+// Whether a record is a fix, and which, in the place of the Rust's `if let Record::B(fix)`.
+pub enum MaybeFix {
+    Missing,
+    Fix(BRecord),
 }
 
 enum Kind {
@@ -69,6 +80,19 @@ fn kind_of(letter: u8) -> Kind
         b'K' => Kind::NotTaken,
         b'L' => Kind::NotTaken,
         _ => Kind::Other,
+    }
+}
+
+// A fix of plain digits, as nearly all are, the quick way; any other line by `BRecord::parse`.
+fn parse_b(line: &[u8]) -> Reading
+    ensures { λ r. ⌜ readingRes r ≡ bind (readB (now (line .entry))) (λ b. ok (Record.B b)) ⌝ }
+{
+    match quick_fix(line) {
+        Quick::Fix(fix) => Reading::Accepted(Record::B(fix)),
+        Quick::No => match BRecord::parse(line) {
+            BRead::Ok(b) => Reading::Accepted(Record::B(b)),
+            BRead::Refused(no_b) => Reading::Refused(no_b),
+        },
     }
 }
 
@@ -113,10 +137,7 @@ impl Record {
                 ARead::Ok(a) => Reading::Accepted(Record::A(a)),
                 ARead::Refused(no_a) => Reading::Refused(no_a),
             },
-            Kind::B => match parse_fix(line) {
-                BRead::Ok(b) => Reading::Accepted(Record::B(b)),
-                BRead::Refused(no_b) => Reading::Refused(no_b),
-            },
+            Kind::B => parse_b(line),
             Kind::C => parse_c(line),
             Kind::H => match HRecord::parse(line) {
                 HRead::Ok(h) => Reading::Accepted(Record::H(h)),
@@ -152,6 +173,24 @@ impl Record {
         }
     }
 
+    // Its text as a piece of a larger one, from a place on: bytes that are too short cut it, and a part outside the
+    // line is left out. `print` is the printer.
+    pub fn put_piece(self, table: Table, line: &[u8], buf: &mut [u8], at: usize) -> usize
+        ensures { λ r. ⌜ Wrote (now (buf .entry)) at (recordPiece self table (now (line .entry))) (now (buf .exit)) r ⌝ }
+    {
+        match self {
+            Record::A(a) => a.put(line, buf, at),
+            Record::B(b) => b.put(line, buf, at),
+            Record::CDeclaration(task) => task.put(line, buf, at),
+            Record::CTurnpoint(point) => point.put(line, buf, at),
+            Record::H(h) => h.put(line, buf, at),
+            Record::I => table.put(b'I', buf, at),
+            Record::J => table.put(b'J', buf, at),
+            Record::NotTaken(part) => put_part(buf, at, line, part),
+            Record::Unrecognised(other) => put_part(buf, at, line, other),
+        }
+    }
+
     pub fn by_the_book(self) -> bool
         ensures { λ r. ⌜ r ≡ recordBook self ⌝ }
     {
@@ -165,6 +204,39 @@ impl Record {
             Record::J => true,
             Record::NotTaken(_) => true,
             Record::Unrecognised(_) => true,
+        }
+    }
+
+    // The table of an I or a J line itself, which stands beside the record; no other kind looks at it.
+    pub fn table(self, line: &[u8]) -> Table
+        ensures { λ r. ⌜ r ≡ recordTable self (now (line .entry)) ⌝ }
+    {
+        match self {
+            Record::I => Table::parse(line).table,
+            Record::J => Table::parse(line).table,
+            Record::A(_) => Table::new(),
+            Record::B(_) => Table::new(),
+            Record::CDeclaration(_) => Table::new(),
+            Record::CTurnpoint(_) => Table::new(),
+            Record::H(_) => Table::new(),
+            Record::NotTaken(_) => Table::new(),
+            Record::Unrecognised(_) => Table::new(),
+        }
+    }
+
+    pub fn fix(self) -> MaybeFix
+        ensures { λ r. ⌜ r ≡ recordFix self ⌝ }
+    {
+        match self {
+            Record::B(fix) => MaybeFix::Fix(fix),
+            Record::A(_) => MaybeFix::Missing,
+            Record::CDeclaration(_) => MaybeFix::Missing,
+            Record::CTurnpoint(_) => MaybeFix::Missing,
+            Record::H(_) => MaybeFix::Missing,
+            Record::I => MaybeFix::Missing,
+            Record::J => MaybeFix::Missing,
+            Record::NotTaken(_) => MaybeFix::Missing,
+            Record::Unrecognised(_) => MaybeFix::Missing,
         }
     }
 
@@ -187,6 +259,16 @@ impl Record {
 }
 
 impl Reading {
+    // The fix of an accepted B line: products that care for fixes alone ask here, and match over no other kind.
+    pub fn fix(self) -> MaybeFix
+        ensures { λ r. ⌜ r ≡ answerFix (readingRes self) ⌝ }
+    {
+        match self {
+            Reading::Accepted(record) => record.fix(),
+            Reading::Refused(_) => MaybeFix::Missing,
+        }
+    }
+
     // The paper's number of the answer.
     pub fn number(self) -> u8
         ensures { λ r. ⌜ r ≡ answerOf self ⌝ }

@@ -14,7 +14,7 @@ use Rattle.text.specs.Res.{Res, ok, no, bind}
 use Rattle.text.specs.declared.refusal.Refusal.{Refusal}
 use Rattle.text.proofs.Steps.{off}
 use Rattle.text.proofs.Lines.{cut-rest}
-use Rattle.field.specs.Field.{cut, columns}
+use Rattle.text.specs.Line.{cut, columns}
 use Rattle.put.specs.Put.{Wrote}
 use Rattle.put.proofs.Writing.{then}
 use Rattle.extension.specs.Extension.{readExtension, extensionText}
@@ -34,13 +34,15 @@ unfolding behind bind
 behind-none (ok es) = refl
 behind-none (no n) = refl
 
-behind-one : (p : List Extension) (e : Extension) (m : Res (List Extension)) → behind p (bind m (λ es. ok (e ∷ es))) ≡ behind (p ++ (e ∷ [])) m
+behind-one : (p : List Extension) (e : Extension) (m : Res (List Extension)) →
+    behind p (bind m (λ es. ok (e ∷ es))) ≡ behind (p ++ (e ∷ [])) m
 unfolding behind bind
 behind-one p e (ok es) = ap ok (sym (append-assoc p (e ∷ []) es))
 behind-one p e (no n) = refl
 
 -- the first of k + 1 definitions, and the others
-unroll : (k : ℕ) (s : List ℕ) → readDefs (suc k) s ≡ bind (readExtension (take 7 s)) (λ e. bind (readDefs k (drop 7 s)) (λ es. ok (e ∷ es)))
+unroll : (k : ℕ) (s : List ℕ) →
+    readDefs (suc k) s ≡ bind (readExtension (take 7 s)) (λ e. bind (readDefs k (drop 7 s)) (λ es. ok (e ∷ es)))
 unfolding readDefs columns cut
 unroll k s = rw (cut-rest s 7)
 
@@ -65,11 +67,13 @@ module _ (body : List ℕ) (n i : ℕ) (defs : List Extension) (t : Turn body n 
   part : take (i * 7 + 7 - i * 7) (drop (i * 7) body) ≡ take 7 (drop (i * 7) body)
   part = ap (λ (k : ℕ). take k (drop (i * 7) body)) (add-sub-cancel-left (i * 7) 7)
 
-  pub refuses : {r : Refusal} → no r ≡ readExtension (take (i * 7 + 7 - i * 7) (drop (i * 7) body)) → no r ≡ readDefs n body
+  pub refuses : {r : Refusal} → no r ≡ readExtension (take (i * 7 + 7 - i * 7) (drop (i * 7) body)) →
+      no r ≡ readDefs n body
   unfolding behind
   refuses h = off _ (off _ (h ∙ ap readExtension part)) ∙ rest
 
-  pub next : n ≤ 99 → {e : Extension} → ok e ≡ readExtension (take (i * 7 + 7 - i * 7) (drop (i * 7) body)) → Turn body n (i + 1) (set defs i e)
+  pub next : n ≤ 99 → {e : Extension} → ok e ≡ readExtension (take (i * 7 + 7 - i * 7) (drop (i * 7) body)) →
+      Turn body n (i + 1) (set defs i e)
   unfolding bind
   next fits {e} h =
       let k : 99 - i ≡ suc (99 - (i + 1)) = omega arith in
@@ -87,7 +91,8 @@ module _ (body : List ℕ) (n i : ℕ) (defs : List Extension) (t : Turn body n 
 held-as : ℕ → List Extension → TableRead
 held-as n defs = record { table = record { defs = defs; count = n }; verdict = Accepted }
 
-pub done : (body : List ℕ) (n i : ℕ) (defs : List Extension) → Turn body n i defs → n ≤ i → record { table = record { defs = defs; count = n }; verdict = Accepted } ≡ tableRead (readDefs n body)
+pub done : (body : List ℕ) (n i : ℕ) (defs : List Extension) → Turn body n i defs → n ≤ i →
+    record { table = record { defs = defs; count = n }; verdict = Accepted } ≡ tableRead (readDefs n body)
 unfolding tableRead tableOf readDefs behind bind held-as
 done body n i defs t end =
     let z : n - i ≡ 0 = omega (arith, t .inside) in

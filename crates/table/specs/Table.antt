@@ -5,7 +5,8 @@ use lib.ListN.{length, take, replicate}
 use Rattle.text.specs.Res.{Res, ok, no, bind, guard, _≤?_, _=?_}
 use Rattle.text.specs.Number.{readNat, padded}
 use Rattle.text.specs.declared.refusal.Refusal.the-variants.{Syntax, BadExtension}
-use Rattle.field.specs.Field.{columns, ascii}
+use Rattle.text.specs.Line.{columns}
+use Rattle.field.specs.Field.{ascii}
 use Rattle.extension.specs.Extension.{readExtension, extensionText}
 use Rattle.extension.specs.declared.Extension.{Extension}
 use Rattle.table.specs.declared.Table.{Table}

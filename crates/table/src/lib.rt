@@ -1,4 +1,5 @@
-// The table of one I or J line, as the second half of src/records/extension.rs has it, with up to 99 definitions by value.
+// The table of one I or J line, as the second half of src/records/extension.rs has it, with up to 99 definitions by
+// value.
 ghost use mathlib.Core.Path.{_≡_};
 ghost use mathlib.Core.List.{[]};
 ghost use Prim.Native.Nat.{_*_, _≤_, min};
@@ -6,7 +7,8 @@ ghost use lib.ListN.{length};
 ghost use Rattle.text.specs.Res.{no};
 ghost use Rattle.put.specs.Put.{Wrote};
 ghost use Rattle.print.specs.Print.{Prints};
-ghost use Rattle.table.specs.Table.{tableOf, readDefs, readTable, defsOf, defsText, tableBody, tableText, tableRead};
+ghost use Rattle.table.specs.Table.{tableOf, readDefs, readTable, defsOf, defsText, tableBody, tableText};
+ghost use Rattle.table.specs.Table.{tableRead};
 use extension::Extension;
 use extension::ExtensionRead;
 use field::Mnemonic;
@@ -135,7 +137,8 @@ impl Table {
         next
     }
 
-    fn put(self, letter: u8, buf: &mut [u8], at: usize) -> usize
+    // The text as a piece of a larger one, from a place on; bytes that are too short cut it.
+    pub fn put(self, letter: u8, buf: &mut [u8], at: usize) -> usize
         ensures { λ r. ⌜ Wrote (now (buf .entry)) at (tableBody letter self) (now (buf .exit)) r ⌝ }
     {
         let count = put_byte(buf, at, letter);

@@ -9,7 +9,7 @@ use Rattle.text.specs.Res.{Res, ok, no, pick, _≤?_, _∧?_}
 use Rattle.part.specs.Part.{bytesOf, findPart, shown}
 use Rattle.text.proofs.Steps.{first, yes≤, is≤, and, both}
 use Rattle.part.proofs.Parts.{shown-found}
-use Rattle.put.specs.Put.{largest}
+use Rattle.text.specs.Word.{largest}
 use Rattle.records.specs.Record.{readLine, readingRes}
 use Rattle.records.specs.declared.Record.{Record}
 use Rattle.records.specs.declared.Reading.{Reading}
@@ -45,7 +45,8 @@ module _ (s : List ℕ) where
   cut-shown p h = shown-found (sym (cut-inside s p h))
 
   -- a line that comes next is the one that the cut finds at the place, which lies inside the log
-  pub next-is : (c : Cursor) (cut : Cut) (after : Cursor) → next.Line cut after ≡ nextOf s c → (cut ≡ cutAt (c .place) s) × (c .place ≤ length s)
+  pub next-is : (c : Cursor) (cut : Cut) (after : Cursor) → next.Line cut after ≡ nextOf s c →
+      (cut ≡ cutAt (c .place) s) × (c .place ≤ length s)
   unfolding nextOf pick
   next-is c cut after e = by ((c .place + 1 ≤? length s) ∧? (c .number + 1 ≤? largest)) refl e
     where
@@ -56,7 +57,8 @@ module _ (s : List ℕ) where
       by false h e = let z : _≡_ {A = ℕ} 0 1 = cc in absurd (omega arith)
 
   -- inside the log and below the largest number a line comes next
-  pub next-on : (c : Cursor) → c .place < length s → c .number < largest → nextOf s c ≡ next.Line (cutAt (c .place) s) (past c (cutAt (c .place) s))
+  pub next-on : (c : Cursor) → c .place < length s → c .number < largest →
+      nextOf s c ≡ next.Line (cutAt (c .place) s) (past c (cutAt (c .place) s))
   unfolding nextOf
   next-on c h n = sym (first _ (and (yes≤ (omega arith)) (yes≤ (omega arith))) refl)
 
@@ -70,12 +72,14 @@ module _ (s : List ℕ) where
   unfolding stepOf stepTo
   step-on w h n = ap (stepTo s w) (next-on (w .at) h n)
 
-  pub step-done : (w : Walk) → next.Done ≡ nextOf s (w .at) → _≡_ {A = Step} (record { walk = w; taken = Done }) (stepOf s w)
+  pub step-done : (w : Walk) → next.Done ≡ nextOf s (w .at) →
+      _≡_ {A = Step} (record { walk = w; taken = Done }) (stepOf s w)
   unfolding stepOf stepTo
   step-done w e = rw (sym e)
 
   -- the line l of the cut, its reading r and what is held after it are the step
-  pub step-line : (w : Walk) {cut : Cut} {after : Cursor} {l : List ℕ} {r : Reading} {h : Held} → next.Line cut after ≡ nextOf s (w .at)
+  pub step-line : (w : Walk) {cut : Cut} {after : Cursor} {l : List ℕ} {r : Reading} {h : Held} →
+      next.Line cut after ≡ nextOf s (w .at)
       → l ≡ bytesOf (shown (findPart (cut .line) s)) s → readingRes r ≡ readLine l → h ≡ heldAfter 73 (w .held) l
       → _≡_ {A = Step} (record { walk = record { held = h; at = after }; taken = Line (cut .line) r }) (stepOf s w)
   unfolding stepOf stepTo

@@ -3,7 +3,7 @@ use Prim.Native.Nat.{ℕ, _+_}
 use mathlib.Core.List.{List}
 use lib.ListN.{length}
 use Rattle.text.specs.Res.{pick, _≤?_, _∧?_}
-use Rattle.put.specs.Put.{largest}
+use Rattle.text.specs.Word.{largest}
 use Rattle.log.specs.Line.{cutAt}
 use Rattle.log.specs.declared.Cut.{Cut}
 use Rattle.walk.specs.declared.cursor.Cursor.{Cursor}

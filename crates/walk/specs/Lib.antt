@@ -1,3 +1,4 @@
 pub mod Cursor
 pub mod Walk
+pub mod Turn
 pub mod Readings

@@ -8,7 +8,8 @@ use Rattle.table.specs.Table.{readTable}
 use Rattle.records.specs.Record.{readLine, readingRes}
 use Rattle.records.specs.declared.Record.{Record}
 use Rattle.log.specs.Log.{Reader, LineRead, Letter}
-use Rattle.held.specs.Held.{noTable, setBy, begins, heldAfter}
+use Rattle.text.specs.Line.{begins}
+use Rattle.held.specs.Held.{noTable, setBy, heldAfter}
 use Rattle.held.specs.declared.Held.{Held}
 use Rattle.walk.specs.Walk.{stepOf}
 use Rattle.walk.specs.declared.Walk.{Walk}

@@ -1,5 +1,6 @@
 // The walk over a log, by value: place, line number, and the table of definitions in force.
 pub mod cursor;
+pub mod turn;
 
 ghost use mathlib.Core.Path.{_≡_};
 ghost use Rattle.part.specs.Part.{foundRes, shown, Shows};
@@ -10,11 +11,11 @@ use crate::cursor::Next;
 use b_record::BRecord;
 use field::Mnemonic;
 use held::Held;
-use held::begins;
 use part::Found;
 use part::Part;
 use records::Reading;
 use records::Record;
+use text::line::begins;
 
 pub struct Walk {
     pub held: Held,

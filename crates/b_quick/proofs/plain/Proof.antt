@@ -6,7 +6,7 @@ use mathlib.Core.List.{List}
 use denote.Ref.{now}
 use Rattle.text.specs.Number.{allDigits}
 use Rattle.text.proofs.Steps.{fails, holds, so-true, so-false}
-use Rattle.field.specs.Field.{cut}
+use Rattle.text.specs.Line.{cut}
 use Rattle.b_quick.specs.Quick.{plainDigits}
 use Rattle.b_quick.proofs.plain.Statement.{statement}
 use Rattle.b_quick.proofs.plain.Tie as tie

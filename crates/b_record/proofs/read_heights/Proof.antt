@@ -6,7 +6,7 @@ use denote.Ref.{now}
 use Rattle.text.specs.Res.{ok, no}
 use Rattle.text.specs.Number.{readInt, i16Res}
 use Rattle.text.proofs.Steps.{came, on, off}
-use Rattle.field.specs.Field.{cut, columns}
+use Rattle.text.specs.Line.{cut, columns}
 use Rattle.b_record.specs.BRecord.{readHeights}
 use Rattle.b_record.proofs.read_heights.Statement.{statement}
 use Rattle.b_record.proofs.read_heights.Tie as tie
@@ -14,11 +14,13 @@ use Rattle.b_record.proofs.read_heights.Tie as tie
 abbrev line : tie.Start → List ℕ
 line b = now (b .args .line)
 
-pressure : (c : tie.After-by-pressure) → ok (c .by-pressure .given .0 .0) ≡ columns 25 30 (readInt 32767) (line (search needs))
+pressure : (c : tie.After-by-pressure) →
+    ok (c .by-pressure .given .0 .0) ≡ columns 25 30 (readInt 32767) (line (search needs))
 unfolding columns cut
 pressure c = came i16Res (c .by-pressure .given .1) (c .before .before .read-i16 .ensures)
 
-no-pressure : (c : tie.After-no-pressure) → no (c .no-pressure .given .0 .0) ≡ columns 25 30 (readInt 32767) (line (search needs))
+no-pressure : (c : tie.After-no-pressure) →
+    no (c .no-pressure .given .0 .0) ≡ columns 25 30 (readInt 32767) (line (search needs))
 unfolding columns cut
 no-pressure c = came i16Res (c .no-pressure .given .1) (c .before .before .read-i16 .ensures)
 

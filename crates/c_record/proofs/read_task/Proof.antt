@@ -9,7 +9,7 @@ use mir.Facts.{toZ-ofZ}
 use Rattle.text.specs.Res.{ok, no}
 use Rattle.text.specs.Number.{readNat, readInt, u16Res, i8Res}
 use Rattle.text.proofs.Steps.{came, on, off}
-use Rattle.field.specs.Field.{cut, columns}
+use Rattle.text.specs.Line.{cut, columns}
 use Rattle.c_record.specs.CRecord.{readTask}
 use Rattle.c_record.proofs.read_task.Statement.{statement}
 use Rattle.c_record.proofs.read_task.Tie as tie
@@ -25,7 +25,8 @@ no-id : (c : tie.After-no-id) → no (c .no-id .given .0 .0) ≡ columns 19 23 (
 unfolding columns cut
 no-id c = came u16Res (c .no-id .given .1) (c .before .before .read-u16 .ensures)
 
-count : (c : tie.After-known-told3) → let z = c .before .count .given .0 .0 in ok (toZ w8 (ofZ w8 z)) ≡ columns 23 25 (readInt 127) (line (search needs))
+count : (c : tie.After-known-told3) →
+    let z = c .before .count .given .0 .0 in ok (toZ w8 (ofZ w8 z)) ≡ columns 23 25 (readInt 127) (line (search needs))
 unfolding columns cut
 count c = ap ok (toZ-ofZ (search needs)) ∙ came i8Res (c .before .count .given .1) (c .before .before .before .read-i8 .ensures)
 

@@ -7,7 +7,8 @@ use denote.Ref.{now}
 use Rattle.text.specs.Res.{ok, no}
 use Rattle.text.specs.Number.{readNat, u8Res}
 use Rattle.text.proofs.Steps.{came, on, off, pass, stop, yes=, no=}
-use Rattle.field.specs.Field.{cut, columns, sized}
+use Rattle.text.specs.Line.{cut, columns}
+use Rattle.field.specs.Field.{sized}
 use Rattle.datetime.specs.Three.{readThree}
 use Rattle.datetime.proofs.read_three.Statement.{statement}
 use Rattle.datetime.proofs.read_three.Tie as tie

@@ -9,7 +9,7 @@ long : (n z : ℕ) → n ≡ length (replicate n z)
 long n z = sym (length-replicate n z)
 
 returns : tie.Need-returns
-returns c = long 1638464 0
+returns c = long 2490433 0
 
 pub text-buffer-spec : {M : Type 1} → statement M
 text-buffer-spec = tie.close (tie.spec returns)

@@ -1,16 +1,17 @@
 use borrow.Author.Needs.{needs}
 use Rattle.put.proofs.Writing.{then}
-use Rattle.listing_text.specs.Line.{lineText}
+use Rattle.listing_text.specs.Line.{listingLine}
 use Rattle.listing_text.proofs.put_line.Statement.{statement}
 use Rattle.listing_text.proofs.put_line.Tie as tie
 
 returns : tie.Need-returns
-unfolding lineText
+unfolding listingLine
 returns c =
     let lf = c .before .before in
     let heights = lf .before .before .before .before in
-    let head = heights .before .before .before .before in
-    then (head .put-head .ensures) (then (heights .put-heights .ensures) (lf .put-byte .ensures))
+    let fix = heights .before .before in
+    let head = fix .before .before .before in
+    then (head .put-head .ensures) (then (rw (fix .fix .ensures) at (heights .put-heights .ensures)) (lf .put-byte .ensures))
 
 pub put-line-spec : {M : Type 1} → statement M
-put-line-spec = tie.close (tie.spec (search needs) (search needs) (search needs) (search needs) returns)
+put-line-spec = tie.close (tie.spec (search needs) (search needs) (search needs) (search needs) (search needs) returns)

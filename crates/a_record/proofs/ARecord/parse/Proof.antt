@@ -6,7 +6,7 @@ use mathlib.Core.List.{List}
 use denote.Ref.{now}
 use Rattle.text.specs.Res.{ok}
 use Rattle.text.proofs.Steps.{first, second, pass, stop, yes≤, no≤}
-use Rattle.field.specs.Field.{cut}
+use Rattle.text.specs.Line.{cut}
 use Rattle.a_record.specs.ARecord.{letterForm, readA}
 use Rattle.a_record.proofs.ARecord.parse.Statement.{statement}
 use Rattle.a_record.proofs.ARecord.parse.Tie as tie

@@ -6,7 +6,8 @@ use mathlib.Core.List.{List}
 use denote.Ref.{now}
 use Rattle.text.specs.Res.{ok}
 use Rattle.text.proofs.Steps.{first, second, pass, stop}
-use Rattle.field.specs.Field.{cut, asciiIn}
+use Rattle.text.specs.Line.{cut}
+use Rattle.field.specs.Field.{asciiIn}
 use Rattle.manufacturer.specs.Maker.{tripleMaker}
 use Rattle.a_record.specs.ARecord.{triple, longForm, readTriple}
 use Rattle.a_record.proofs.ARecord.parse_triple.Statement.{statement}

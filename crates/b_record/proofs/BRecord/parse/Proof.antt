@@ -5,9 +5,9 @@ use mathlib.Core.Bool.{true, false}
 use mathlib.Core.List.{List}
 use denote.Ref.{now}
 use Rattle.text.specs.Res.{Res, ok, no}
-use Rattle.text.specs.Line.{byte}
+use Rattle.text.specs.Line.{byte, cut, columns}
 use Rattle.text.proofs.Steps.{came, on, off, pass, stop, yes≤, no≤, so-true, so-false}
-use Rattle.field.specs.Field.{cut, columns, isAscii, ascii, asciiIn}
+use Rattle.field.specs.Field.{isAscii, ascii, asciiIn}
 use Rattle.field.proofs.Fields.{known-columns}
 use Rattle.datetime.specs.Time.{readTime, timeIn, timeRes}
 use Rattle.coord.specs.Coord.{readPosition, positionIn, positionRes}
@@ -35,7 +35,8 @@ time-read : (c : tie.After-parse-ascii) → timeRes (c .parse-ascii .result) ≡
 unfolding columns cut timeIn readTime
 time-read c = c .parse-ascii .ensures ∙ known-columns 1 7 6 _ _ (plain (search needs))
 
-place-read : (c : tie.After-parse-ascii2) → positionRes (c .parse-ascii2 .result) ≡ columns 7 24 readPosition (line (search needs))
+place-read : (c : tie.After-parse-ascii2) →
+    positionRes (c .parse-ascii2 .result) ≡ columns 7 24 readPosition (line (search needs))
 unfolding columns cut positionIn readPosition
 place-read c = c .parse-ascii2 .ensures ∙ known-columns 7 24 17 _ _ (plain (search needs))
 

@@ -9,7 +9,8 @@ use mir.Val.{toZ, ofZ}
 use lib.ListN.{length}
 use Rattle.text.specs.Res.{ok, no, _≤?_}
 use Rattle.text.proofs.Steps.{came, on, off, pass, stop, yes≤, no≤, so-true, so-false}
-use Rattle.field.specs.Field.{cut, columns, isAscii, asciiIn}
+use Rattle.text.specs.Line.{cut, columns}
+use Rattle.field.specs.Field.{isAscii, asciiIn}
 use Rattle.datetime.specs.Date.{readDate, dateRes}
 use Rattle.datetime.specs.Time.{readTime, timeRes}
 use Rattle.c_record.specs.CRecord.{readFlight, readTask, readDeclaration, flightRes, taskRes}
@@ -57,7 +58,8 @@ no-task : (c : tie.After-no-task) → no (c .no-task .given .0 .0) ≡ readTask 
 no-task c = came taskRes (c .no-task .given .1) (c .before .before .read-task .ensures)
 
 -- the count as the machine holds it
-count : (c : tie.After-struct-told) → let t : tie.After-task = search needs in let z = t .task .given .0 .0 .count in toZ w8 (ofZ w8 z) ≡ z
+count : (c : tie.After-struct-told) →
+    let t : tie.After-task = search needs in let z = t .task .given .0 .0 .count in toZ w8 (ofZ w8 z) ≡ z
 count c = search needs
 
 pub parse-spec : {M : Type 1} → statement M

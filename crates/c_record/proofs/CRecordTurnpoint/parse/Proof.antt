@@ -6,7 +6,8 @@ use mathlib.Core.List.{List}
 use denote.Ref.{now}
 use Rattle.text.specs.Res.{ok, no}
 use Rattle.text.proofs.Steps.{came, on, off, pass, stop, yes≤, no≤, so-true, so-false}
-use Rattle.field.specs.Field.{cut, columns, isAscii, asciiIn}
+use Rattle.text.specs.Line.{cut, columns}
+use Rattle.field.specs.Field.{isAscii, asciiIn}
 use Rattle.coord.specs.Coord.{readPosition, positionRes}
 use Rattle.c_record.specs.CRecord.{readTurnpoint}
 use Rattle.c_record.proofs.CRecordTurnpoint.parse.Statement.{statement}
@@ -23,7 +24,8 @@ position : (c : tie.After-position) → ok (c .position .given .0 .0) ≡ column
 unfolding columns cut
 position c = came positionRes (c .position .given .1) (c .before .before .parse .ensures)
 
-no-position : (c : tie.After-no-position) → no (c .no-position .given .0 .0) ≡ columns 1 18 readPosition (line (search needs))
+no-position : (c : tie.After-no-position) →
+    no (c .no-position .given .0 .0) ≡ columns 1 18 readPosition (line (search needs))
 unfolding columns cut
 no-position c = came positionRes (c .no-position .given .1) (c .before .before .parse .ensures)
 

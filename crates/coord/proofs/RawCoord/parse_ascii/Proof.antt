@@ -6,7 +6,8 @@ use denote.Ref.{now}
 use Rattle.text.specs.Res.{Res, ok, no}
 use Rattle.text.specs.Number.{readNat, u8Res, u16Res}
 use Rattle.text.proofs.Steps.{came, on, off, pass, stop, yes=, no=}
-use Rattle.field.specs.Field.{cut, columns, sized}
+use Rattle.text.specs.Line.{cut, columns}
+use Rattle.field.specs.Field.{sized}
 use Rattle.coord.specs.Coord.{readCoord}
 use Rattle.coord.proofs.RawCoord.parse_ascii.Statement.{statement}
 use Rattle.coord.proofs.RawCoord.parse_ascii.Tie as tie

@@ -7,7 +7,7 @@ use denote.Ref.{now}
 use Rattle.text.specs.Res.{ok, no}
 use Rattle.text.specs.Number.{readNat, u8Res}
 use Rattle.text.proofs.Steps.{came, on, off, pass, stop, yes=, no=, yes≤, no≤}
-use Rattle.field.specs.Field.{cut, columns}
+use Rattle.text.specs.Line.{cut, columns}
 use Rattle.extension.specs.Extension.{readDefinition, readExtension}
 use Rattle.extension.proofs.Extension.parse.Statement.{statement}
 use Rattle.extension.proofs.Extension.parse.Tie as tie

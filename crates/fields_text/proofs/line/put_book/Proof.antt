@@ -7,7 +7,7 @@ use Rattle.text.specs.Res.{_=?_}
 use Rattle.text.proofs.Steps.{first, second, yes=, no=}
 use Rattle.put.proofs.Writing.{nothing}
 use Rattle.records.specs.Record.{acceptedAs}
-use Rattle.fields_piece.specs.Piece.{byteShown}
+use Rattle.record_text.specs.Piece.{byteShown}
 use Rattle.fields_text.specs.Line.{bookShown}
 use Rattle.fields_text.proofs.line.put_book.Statement.{statement}
 use Rattle.fields_text.proofs.line.put_book.Tie as tie

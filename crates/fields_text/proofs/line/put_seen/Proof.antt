@@ -11,7 +11,7 @@ returns c =
     let printed = c .before .before in
     let book = printed .before .before .before .before in
     let fields = book .before .before .before .before in
-    rw (fields .before .before .before .parse .ensures)
+    rw (fields .before .before .table .ensures)
     at (then (fields .put-record .ensures) (then (book .put-book .ensures) (printed .put-printed .ensures)))
 
 pub put-seen-spec : {M : Type 1} → statement M

@@ -6,7 +6,8 @@ use native.Mathlib.Omega.{arith}
 use denote.Ref.{now}
 use Rattle.text.specs.Res.{ok}
 use Rattle.text.proofs.Steps.{pass, stop, first, second, yes≤, no≤, yes=, no=, so-true, so-false}
-use Rattle.field.specs.Field.{cut, asciiIn}
+use Rattle.text.specs.Line.{cut}
+use Rattle.field.specs.Field.{asciiIn}
 use Rattle.h_record.specs.HRecord.{named, readH}
 use Rattle.h_record.specs.declared.HRecord.{HRecord}
 use Rattle.h_record.proofs.Colons.{colon-inside}
@@ -17,7 +18,8 @@ abbrev line : tie.Start → List ℕ
 line b = now (b .args .line)
 
 -- past the tests the record is the one that the colon names
-made : (c : tie.After-colon) {r : HRecord} → r ≡ named (line (search needs)) (c .colon .result) → ok r ≡ readH (line (search needs))
+made : (c : tie.After-colon) {r : HRecord} → r ≡ named (line (search needs)) (c .colon .result) →
+    ok r ≡ readH (line (search needs))
 unfolding readH asciiIn cut
 made c h = pass _ (yes≤ (search needs)) (pass _ (search (so-true)) (rw (h, c .colon .ensures)))
 

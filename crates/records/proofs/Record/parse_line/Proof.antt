@@ -9,7 +9,6 @@ use Rattle.text.specs.Res.{ok, no}
 use Rattle.text.specs.Line.{byte}
 use Rattle.text.proofs.Steps.{came, on, off, pass, stop, yes≤, no≤}
 use Rattle.a_record.specs.ARecord.{readA, aRes}
-use Rattle.b_record.specs.BRecord.{readB, bRes}
 use Rattle.h_record.specs.HRecord.{readH, hRes}
 use Rattle.records.specs.Record.{kindOf, whole, readKind, readLine}
 use Rattle.records.specs.declared.Kind.the-variants as kind
@@ -54,12 +53,6 @@ a c = came aRes (c .a .given .1) (c .before .before .parse .ensures)
 no-a : (c : tie.After-no-a) → no (c .no-a .given .0 .0) ≡ readA (line (search needs))
 no-a c = came aRes (c .no-a .given .1) (c .before .before .parse .ensures)
 
-b : (c : tie.After-b) → ok (c .b .given .0 .0) ≡ readB (line (search needs))
-b c = came bRes (c .b .given .1) (c .before .before .parse-fix .ensures)
-
-no-b : (c : tie.After-no-b) → no (c .no-b .given .0 .0) ≡ readB (line (search needs))
-no-b c = came bRes (c .no-b .given .1) (c .before .before .parse-fix .ensures)
-
 h : (c : tie.After-h) → ok (c .h .given .0 .0) ≡ readH (line (search needs))
 h c = came hRes (c .h .given .1) (c .before .before .parse2 .ensures)
 
@@ -92,12 +85,9 @@ parse-line-spec =
     (search needs)
     (search needs)
     (search needs)
-    (search needs)
-    (search needs)
     (λ c. pass _ (yes≤ (some (search needs))) (rw (is-A (search needs)) (on _ (a (search needs)) refl)))
     (λ c. pass _ (yes≤ (some (search needs))) (rw (is-A (search needs)) (off _ (no-a (search needs)))))
-    (λ c. pass _ (yes≤ (some (search needs))) (rw (is-B (search needs)) (on _ (b (search needs)) refl)))
-    (λ c. pass _ (yes≤ (some (search needs))) (rw (is-B (search needs)) (off _ (no-b (search needs)))))
+    (λ c. pass _ (yes≤ (some (search needs))) (rw (is-B (search needs)) (c .parse-b .ensures)))
     (λ c. pass _ (yes≤ (some (search needs))) (rw (is-C (search needs)) (c .parse-c .ensures)))
     (λ c. pass _ (yes≤ (some (search needs))) (rw (is-H (search needs)) (on _ (h (search needs)) refl)))
     (λ c. pass _ (yes≤ (some (search needs))) (rw (is-H (search needs)) (off _ (no-h (search needs)))))

@@ -9,7 +9,8 @@ use denote.Ref.{now}
 use Rattle.text.specs.Res.{ok, no}
 use Rattle.text.specs.Number.{readNat, u8Res}
 use Rattle.text.proofs.Steps.{came, on, off, pass, stop, yes≤, no≤, yes=, no=, so-true, so-false}
-use Rattle.field.specs.Field.{isAscii, cut, columns, asciiIn, ascii}
+use Rattle.text.specs.Line.{cut, columns}
+use Rattle.field.specs.Field.{isAscii, asciiIn, ascii}
 use Rattle.table.specs.Table.{readBody, readTable, tableRead}
 use Rattle.table.proofs.Counts.{two-characters}
 use Rattle.table.proofs.Table.parse.Statement.{statement}

@@ -5,7 +5,8 @@ use mathlib.Core.List.{List}
 use denote.Ref.{now}
 use Rattle.text.specs.Res.{ok, no}
 use Rattle.text.proofs.Steps.{came, on, off, pass, stop, yes=, no=}
-use Rattle.field.specs.Field.{cut, columns, sized}
+use Rattle.text.specs.Line.{cut, columns}
+use Rattle.field.specs.Field.{sized}
 use Rattle.coord.specs.Coord.{latitudeRes, longitudeRes, latitudeIn, longitudeIn, readBoth, positionIn}
 use Rattle.coord.proofs.position.RawPosition.parse_ascii.Statement.{statement}
 use Rattle.coord.proofs.position.RawPosition.parse_ascii.Tie as tie

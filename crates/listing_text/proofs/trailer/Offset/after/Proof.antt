@@ -3,7 +3,7 @@ use mathlib.Core.Path.{_≡_, refl, sym, _∙_}
 use mathlib.Core.Bool.{true}
 use denote.Ref.{now}
 use Rattle.text.proofs.Steps.{first, second, yes=, no=}
-use Rattle.held.specs.Held.{begins}
+use Rattle.text.specs.Line.{begins}
 use Rattle.listing_text.specs.Trailer.{forceAfter}
 use Rattle.listing_text.proofs.Answers.{number-is}
 use Rattle.listing_text.proofs.trailer.Offset.after.Statement.{statement}

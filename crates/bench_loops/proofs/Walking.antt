@@ -1,0 +1,56 @@
+-- A turn by `Walk::step`, which carries place, number and table along.
+use Prim.Native.Nat.{ℕ, _-_, _≤_, _<_}
+use mathlib.Core.Path.{_≡_, refl, sym, _∙_}
+use mathlib.Core.List.{List}
+use native.Mathlib.Omega.{arith}
+use lib.ListN.{length}
+use Rattle.text.specs.Word.{largest}
+use Rattle.part.specs.Part.{bytesOf}
+use Rattle.part.specs.declared.Part.{Part}
+use Rattle.records.specs.Record.{readLine, readingRes}
+use Rattle.records.specs.declared.Reading.{Reading}
+use Rattle.log.specs.Line.{cutAt}
+use Rattle.log.specs.Fold.{Carried, fresh}
+use Rattle.log.proofs.Cuts.{cut-viewed}
+use Rattle.log.proofs.Reached.{Reached, few, line, nearer}
+use Rattle.held.specs.declared.Held.{Held}
+use Rattle.walk.specs.Cursor.{past}
+use Rattle.walk.specs.Walk.{readingOf, stepOf}
+use Rattle.walk.specs.Readings.{Line-read, reader}
+use Rattle.walk.specs.declared.Walk.{Walk}
+use Rattle.walk.specs.declared.Step.{Step}
+use Rattle.walk.specs.declared.Taken.the-variants.{Line, Done}
+use Rattle.walk.proofs.Laws.{viewed, step-on}
+
+-- what a walk carries, with a made so far
+abbrev pub carriedBy : {T : Type 0} → Walk → T → Carried Held T
+carriedBy w a = record { number = w .at .number; place = w .at .place; held = w .held; made = a }
+
+module _ {T : Type 0} {step : T → Line-read → T} {a₀ a : T} {s : List ℕ} {w : Walk} {t : Step} (short : length s ≤ largest)
+    (i : w .at .place < length s) (r : Reached reader step (fresh reader a₀) s (w .at .place) (carriedBy w a)) (e : t ≡ stepOf s w) where
+  abbrev here : List ℕ
+  here = bytesOf (cutAt (w .at .place) s .line) s
+
+  -- no more lines than bytes were read, so their number does not stop the walk
+  step-here : t ≡ record {
+    walk = record { at = past (w .at) (cutAt (w .at .place) s); held = reader .after (w .at .place) (w .held) here };
+    taken = Line (cutAt (w .at .place) s .line) (readingOf (readLine here));
+  }
+  step-here = e ∙ step-on s w i (omega (arith, few r))
+
+  pub not-done : t .taken ≡ Done → ⊥
+  not-done d = let n = step-here in let z : _≡_ {A = ℕ} 0 1 = cc in omega arith
+
+  pub step-read : {part : Part} {q : Reading} → t .taken ≡ Line part q → readingRes q ≡ readLine here
+  step-read {q} k = let n = step-here in let z : q ≡ readingOf (readLine here) = cc in rw z (viewed (readLine here))
+
+  -- the line that was read, with a′ made of it
+  pub step-turn : {a′ : T} → ((n : ℕ) (h : Held) →
+      a′ ≡ step a (record { number = n; place = w .at .place; line = here; answer = readLine here; held = h })) →
+      Reached reader step (fresh reader a₀) s (t .walk .at .place) (carriedBy (t .walk) a′)
+  unfolding past
+  step-turn m = rw step-here (line i r refl (sym (cut-viewed s _ (r .inside))) (omega arith) refl (m _ _))
+
+  pub step-nearer : length s - t .walk .at .place < length s - w .at .place
+  unfolding past
+  step-nearer = rw step-here (nearer r i refl)

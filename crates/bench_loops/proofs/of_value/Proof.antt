@@ -1,0 +1,26 @@
+use borrow.Author.Needs.{needs}
+use Prim.Native.Nat.{ℕ}
+use mathlib.Core.Path.{_≡_, refl}
+use mathlib.Core.List.{List, [], _∷_}
+use native.Mathlib.Omega.{arith}
+use lib.ListN.{length}
+use denote.Ref.{now}
+use Rattle.bench_loops.specs.Timed.{plus, ofValue}
+use Rattle.bench_loops.proofs.of_value.Statement.{statement}
+use Rattle.bench_loops.proofs.of_value.Tie as tie
+
+empty : (v : List ℕ) → length v ≡ 0 → 0 ≡ ofValue v
+unfolding ofValue plus
+empty [] e = refl
+empty (b ∷ v) e = absurd (omega arith)
+
+pub of-value-spec : {M : Type 1} → statement M
+unfolding ofValue plus
+of-value-spec =
+    tie.close
+    (tie.spec
+    (λ c. empty (now (c .before .before .args .value)) (omega arith))
+    (search needs)
+    (λ c. omega (arith, c .shared-slice-known2 .given 0))
+    (search needs)
+    (λ c. c .wrapping-add-u64 .ensures))

@@ -1,9 +1,0 @@
-use borrow.Author.Needs.{needs}
-use Rattle.put.proofs.Writing.{then}
-use Rattle.fields_piece.specs.Piece.{partText}
-use Rattle.fields_piece.proofs.put_place.Statement.{statement}
-use Rattle.fields_piece.proofs.put_place.Tie as tie
-
-pub put-place-spec : {M : Type 1} → statement M
-unfolding partText
-put-place-spec = tie.close (tie.spec (search needs) (search needs) (search needs) (search needs) (λ c. search (then)))

@@ -1,9 +1,0 @@
-use borrow.Author.Needs.{needs}
-use Rattle.put.proofs.Writing.{then}
-use Rattle.fields_piece.specs.Piece.{two}
-use Rattle.fields_piece.proofs.put_two.Statement.{statement}
-use Rattle.fields_piece.proofs.put_two.Tie as tie
-
-pub put-two-spec : {M : Type 1} → statement M
-unfolding two
-put-two-spec = tie.close (tie.spec (search needs) (search needs) (search needs) (search needs) (search needs) (λ c. search (then)))

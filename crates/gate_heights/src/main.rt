@@ -1,0 +1,93 @@
+// The peers' lesson: a fix whose two heights differ, by every path on which a height leaves the reader. Once two
+// readers took the two columns the other way round, and a published gain had to be struck out.
+use b_record::BRead;
+use b_record::BRecord;
+use fields_text::line::put_line;
+use held::Held;
+use listing_text::listing::print_listing;
+use print::number::put_i16;
+use print::printed::Printed;
+use records::Record;
+
+fn say(text: &[u8], n: usize) {
+    if n <= text.len() {
+        io::write_all(1, &text[0..n]);
+    }
+}
+
+fn say_printed(answer: Printed, text: &[u8]) {
+    match answer {
+        Printed::Written(n) => say(text, n),
+        Printed::Refused(_) => {
+            io::write_all(1, b"refused");
+        }
+    }
+}
+
+fn say_height(metres: i16) {
+    let mut text = [0u8; 8];
+    let n = put_i16(&mut text, 0, metres, 1);
+    say(&text, n);
+}
+
+// The record's own fields.
+fn record(line: &[u8]) {
+    io::write_all(1, b"record: pressure ");
+    match BRecord::parse(line) {
+        BRead::Ok(fix) => {
+            say_height(fix.pressure_alt.0);
+            io::write_all(1, b", GPS ");
+            say_height(fix.gps_alt.0);
+        }
+        BRead::Refused(_) => {
+            io::write_all(1, b"refused");
+        }
+    }
+    io::write_all(1, b"\n");
+}
+
+fn listing(line: &[u8]) {
+    let mut text = [0u8; 64];
+    let answer = print_listing(line, &mut text);
+    io::write_all(1, b"listing: ");
+    say_printed(answer, &text);
+}
+
+fn fields(line: &[u8]) {
+    let mut text = [0u8; 256];
+    let n = put_line(
+        1,
+        line,
+        Record::parse_line(line),
+        Held::new(),
+        b"",
+        &mut text,
+        0,
+    );
+    io::write_all(1, b"fields: ");
+    say(&text, n);
+}
+
+// The printed line, of a fix in which the heights stand as they were read.
+fn printed(line: &[u8]) {
+    let mut text = [0u8; 64];
+    io::write_all(1, b"printed: ");
+    match BRecord::parse(line) {
+        BRead::Ok(fix) => {
+            let answer = fix.print(line, &mut text);
+            say_printed(answer, &text);
+        }
+        BRead::Refused(_) => {
+            io::write_all(1, b"refused");
+        }
+    }
+    io::write_all(1, b"\n");
+}
+
+fn main() {
+    let line = b"B1015304712345N01102500EA0152301561";
+    record(line);
+    listing(line);
+    fields(line);
+    printed(line);
+}

@@ -1,0 +1,169 @@
+-- The listing of a log has room: 38 characters for each of its lines, 65 for the trailer.
+use Prim.Native.Nat.{ℕ, suc, _+_, _^_, _≤_, _<_}
+use mathlib.Core.Path.{_≡_, refl}
+use mathlib.Core.Bool.{Bool, true, false}
+use mathlib.Core.List.{List, [], _∷_}
+use native.Mathlib.Omega.{arith}
+use lib.ListN.{length, length-append}
+use Rattle.text.specs.Res.{Res, ok, no, pick, numberOf}
+use Rattle.text.specs.Word.{largest}
+use Rattle.text.specs.Line.{byte, cut, columns}
+use Rattle.text.specs.Number.{signed}
+use Rattle.text.specs.declared.refusal.Refusal.{Refusal}
+use Rattle.text.specs.declared.refusal.Refusal.the-variants as refusal
+use Rattle.text.proofs.Steps.{is≤}
+use Rattle.text.proofs.Finds.{Finds, finds-ok, finds-bind, finds-guard, finds-pick}
+use Rattle.text.proofs.Decimal.{places-le, length-padded}
+use Rattle.text.proofs.RoundTrip.{int-columns}
+use Rattle.text.proofs.Lines.{cut-length}
+use Rattle.field.specs.Field.{asciiIn, ascii}
+use Rattle.b_record.specs.BRecord.{readHeights, readFix, readB}
+use Rattle.records.specs.Record.{kindOf, readC, readKind, readLine, recordFix, answerFix, acceptedAs}
+use Rattle.records.specs.declared.Record.{Record}
+use Rattle.records.specs.declared.Record.the-variants as rec
+use Rattle.log.specs.Line.{lineText}
+use Rattle.log.specs.Log.{chunks, readFrom, readings}
+use Rattle.log.specs.Fold.{over, texts, Carried, fresh, pastLine}
+use Rattle.log.proofs.Chunks.{total, total-chunks, chunks-le}
+use Rattle.held.specs.declared.Held.{Held}
+use Rattle.walk.specs.Readings.{reader}
+use Rattle.walk.proofs.Turns.{one-at-most}
+use Rattle.listing_text.specs.Line.{plain, answered, answerText, headText, fixHeights, heightsOf, listingLine}
+use Rattle.listing_text.specs.Trailer.{isRefusal, forceAfter, nothing, counted, countStep}
+use Rattle.listing_text.specs.Trailer.{offsetText, figures, trailerText}
+use Rattle.listing_text.specs.Listing.{lineOf, listed, listingText, roomFor, HasRoom}
+use Rattle.listing_text.specs.declared.trailer.Offset.{Offset}
+use Rattle.listing_text.specs.declared.trailer.Trailer.{Trailer}
+
+-- a number below 10 ^ (k + 1) has at most k + 1 characters
+plain-le : (k n : ℕ) → n < 10 ^ suc k → length (plain n) ≤ suc k
+unfolding plain
+plain-le k n h = omega (arith, length-padded 1 n, places-le k n h)
+
+-- what both have, the one that is picked has
+picked : {A : Type 0} (P : A → Type 0) (t : Bool) {a b : A} → P a → P b → P (pick t a b)
+unfolding pick
+picked P true p q = p
+picked P false p q = q
+
+-- ---- the answer to a line, and its heights
+
+-- An answer of at most two characters, and heights of at most twelve.
+abbrev Short : Res Record → Type 0
+Short m = (answered m ≤ 12) × (length (heightsOf (answerFix m)) ≤ 12)
+
+-- nothing is said of what is found
+any : {A : Type 0} {m : Res A} → Finds m (λ _. Unit)
+any = record { found = λ _ _. tt }
+
+-- the heights of a line have 5 characters each
+heights-columns : (s : List ℕ) → 35 ≤ length s
+    → Finds (readHeights s) (λ h. length (signed 5 (h .pressure .0)) + length (signed 5 (h .gps .0)) ≡ 10)
+unfolding readHeights columns
+heights-columns s l =
+    finds-bind (int-columns 32767 5 (cut 25 30 s) (cut-length 25 5 s (omega arith))) (λ p ep.
+    finds-bind (int-columns 32767 5 (cut 30 35 s) (cut-length 30 5 s l)) (λ g eg.
+    finds-ok (omega arith)))
+
+-- a fix is short: each of its heights has a space in front
+fix-short : (s : List ℕ) → Finds (readB s) (λ r. Short (ok (rec.B r)))
+unfolding readB ascii asciiIn readFix answered acceptedAs answerFix recordFix heightsOf fixHeights
+fix-short s =
+    finds-guard _ (λ long. finds-guard _ (λ _.
+    finds-bind any (λ _ _. finds-bind any (λ _ _. finds-bind any (λ _ _.
+    finds-bind (heights-columns s (is≤ long)) (λ h e. finds-ok (omega arith, simp length-append (omega arith))))))))
+
+-- a record of any kind is short: only a fix has heights
+kind-short : (b : ℕ) (s : List ℕ) → Finds (readKind (kindOf b) s) (λ r. Short (ok r))
+unfolding kindOf readKind readC answered acceptedAs answerFix recordFix heightsOf
+kind-short b s =
+    let P : _ → Type 0 = λ k. Finds (readKind k s) (λ r. Short (ok r)) in
+    picked P _ (finds-bind any (λ _ _. finds-ok (omega arith)))
+    (picked P _ (finds-bind (fix-short s) (λ r h. finds-ok h))
+    (picked P _
+    (finds-guard _ (λ _.
+    finds-pick
+    (λ _. finds-bind any (λ _ _. finds-ok (omega arith)))
+    (λ _. finds-bind any (λ _ _. finds-ok (omega arith)))))
+    (picked P _ (finds-bind any (λ _ _. finds-ok (omega arith)))
+    (picked P _ (finds-bind any (λ _ _. finds-ok (omega arith)))
+    (picked P _ (finds-bind any (λ _ _. finds-ok (omega arith)))
+    (picked P _ (finds-ok (omega arith)) (finds-ok (omega arith))))))))
+
+-- a refusal has a number of at most two characters
+refusal-le : (n : Refusal) → numberOf n ≤ 12
+refusal-le refusal.Syntax = omega arith
+refusal-le refusal.NotAscii = omega arith
+refusal-le refusal.UnreadableNumber = omega arith
+refusal-le refusal.OutOfRange = omega arith
+refusal-le refusal.BadExtension = omega arith
+refusal-le refusal.MissingExtension = omega arith
+refusal-le refusal.WrongLength = omega arith
+refusal-le refusal.NoDefinition = omega arith
+refusal-le refusal.OutsideLine = omega arith
+refusal-le refusal.NoRoom = omega arith
+
+-- an answer is short where what it finds is
+found-short : (m : Res Record) → Finds m (λ r. Short (ok r)) → Short m
+unfolding answered answerFix heightsOf
+found-short (ok r) f = f .found r refl
+found-short (no n) f = (refusal-le n, omega arith)
+
+-- a line of the listing has at most 38 characters
+line-le : (n : ℕ) (s : List ℕ) → n ≤ largest → length (listingLine n s (readLine s)) ≤ 38
+unfolding readLine listingLine headText answerText
+line-le n s h =
+    let m = found-short (readLine s) (finds-guard _ (λ _. kind-short (byte 0 s) s)) in
+    simp length-append (omega (arith, plain-le 19 n (omega arith), plain-le 1 (answered (readLine s)) (omega arith)))
+
+-- ---- the trailer
+
+-- Counts of no more than the lines so far, and an offset of at most 20 characters.
+record Fits (c : Carried Held Trailer) : Type 0 where
+  lines : c .made .lines ≤ c .number
+  refused : c .made .refused ≤ c .number
+  offset : length (offsetText (c .made .«in_force»)) ≤ 20
+
+-- a trailer that fits has at most 65 characters
+trailer-le : {c : Carried Held Trailer} → Fits c → c .number ≤ largest → length (trailerText (c .made)) ≤ 65
+unfolding trailerText figures
+trailer-le {c} f h =
+    let lines = plain-le 19 (c .made .lines) (omega arith) in
+    let refused = plain-le 19 (c .made .refused) (omega arith) in
+    simp length-append (omega arith)
+
+-- one line more still fits
+line-fits : {c : Carried Held Trailer} (k : List ℕ) → Fits c → c .place ≤ largest
+    → Fits (pastLine reader countStep c (lineText k) (length k))
+unfolding pastLine countStep counted forceAfter offsetText
+line-fits {c} k f h =
+    let P : Offset → Type 0 = λ o. length (offsetText o) ≤ 20 in
+    record {
+      lines = omega arith;
+      refused = omega (arith, one-at-most (isRefusal (readLine (lineText k))));
+      offset = picked P _ (picked P _ (plain-le 19 (c .place) (omega arith)) (omega arith)) (f .offset);
+    }
+
+-- ---- the listing
+
+-- what is listed from some line on has room
+rest-le : (c : Carried Held Trailer) (ks : List (List ℕ)) → Fits c
+    → c .number + length ks ≤ largest → c .place + total ks ≤ largest
+    → let xs = readFrom reader (c .number) (c .place) (c .held) ks in
+    length (texts lineOf xs) + length (trailerText (over countStep (c .made) xs)) ≤ roomFor (length ks)
+unfolding readFrom texts over lineOf roomFor pastLine
+rest-le c [] f n p = omega (arith, trailer-le f (omega arith))
+rest-le c (k ∷ ks) f n p =
+    let line = line-le (c .number + 1) (lineText k) (omega arith) in
+    let next = pastLine reader countStep c (lineText k) (length k) in
+    let rest = rest-le next ks (line-fits k f (omega arith)) (omega arith) (omega arith) in
+    simp length-append (omega arith)
+
+-- no log that a machine can hold has a longer listing
+pub has-room : HasRoom
+unfolding listingText listed readings nothing offsetText roomFor
+has-room log h =
+    let few = chunks-le log in
+    let bytes = total-chunks log in
+    let all = rest-le (fresh reader nothing) (chunks log) (omega arith) (omega arith) (omega arith) in
+    simp length-append (omega arith)

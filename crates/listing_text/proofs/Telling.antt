@@ -1,0 +1,76 @@
+-- The loop over a log that counts and lists its lines.
+use Prim.Native.Nat.{ℕ, _+_, _≤_, _<_}
+use mathlib.Core.Path.{_≡_, refl, _∙_}
+use mathlib.Core.List.{List}
+use native.Mathlib.Omega.{arith}
+use lib.ListN.{length, take}
+use lib.Seq.{take-all}
+use Rattle.text.specs.Word.{largest}
+use Rattle.part.specs.Part.{partBytes}
+use Rattle.put.specs.Put.{Wrote}
+use Rattle.put.proofs.Writing.{then}
+use Rattle.put.proofs.Writing as writing
+use Rattle.records.specs.Record.{readingRes}
+use Rattle.log.specs.Log.{readings}
+use Rattle.log.specs.Fold.{texts, fresh, readOn}
+use Rattle.log.proofs.Pieces.{all-read, no-text}
+use Rattle.log.proofs.Reached as fold
+use Rattle.log.proofs.Reached.{Reached}
+use Rattle.held.specs.declared.Held.{Held}
+use Rattle.walk.specs.Turn.{gotAt}
+use Rattle.walk.specs.Readings.{Line-read, reader}
+use Rattle.walk.specs.declared.turn.Got.{Got}
+use Rattle.walk.proofs.Turns.{turn, text-turn, one-at-most}
+use Rattle.listing_text.specs.Line.{listingLine}
+use Rattle.listing_text.specs.Trailer.{isRefusal, nothing, counted, countStep, trailerText}
+use Rattle.listing_text.specs.Listing.{lineOf, listed, listingText}
+use Rattle.listing_text.specs.declared.trailer.Trailer.{Trailer}
+
+-- The lines before the place were counted and written.
+pub record Telling (log b₀ : List ℕ) (at₀ : ℕ) (b : List ℕ) (t : Trailer) (end place : ℕ) : Type 0 where
+  pub held : Held
+  pub reached : Reached reader countStep (fresh reader nothing) log place (record { number = t .lines; place = place; held = held; made = t })
+  pub wrote : Wrote b₀ at₀ (texts lineOf (readOn reader (fresh reader nothing) (take place log))) b end
+  pub lines : t .lines ≤ place
+  pub refused : t .refused ≤ place
+
+pub at-start : (log b : List ℕ) (at : ℕ) → length b < largest → at ≤ largest → Telling log b at b nothing at 0
+unfolding nothing
+at-start log b at h k = record {
+  held = _;
+  reached = fold.at-start;
+  wrote = rw (no-text reader lineOf (fresh reader nothing)) (writing.nothing b at h k);
+  lines = omega arith;
+  refused = omega arith;
+}
+
+-- a line raises the count of refused lines by at most one
+one-refused : (t : Trailer) (x : Line-read) → countStep t x .refused ≤ t .refused + 1
+unfolding countStep counted
+one-refused t x = omega (arith, one-at-most (isRefusal (x .answer)))
+
+module _ {log b₀ b : List ℕ} {at₀ end place : ℕ} {t : Trailer} (f : Telling log b₀ at₀ b t end place) where
+  -- after the last line the trailer is left
+  pub at-end : {b′ : List ℕ} {r : ℕ} → length log ≤ place → Wrote b end (trailerText t) b′ r →
+      Wrote b₀ at₀ (listingText log) b′ r
+  unfolding listingText listed
+  at-end i w =
+      let lines = rw (take-all place log i, all-read reader countStep nothing log) at (f .wrote) in
+      then lines (rw (fold.product i (f .reached)) at w)
+
+  -- a line that was counted and then written
+  pub line : {g : Got} {l b′ : List ℕ} {to : ℕ} {t′ : Trailer} → place < length log → g ≡ gotAt place log →
+      l ≡ partBytes (g .line) log →
+      t′ ≡ counted t place l (readingRes (g .reading)) → Wrote b end (listingLine (t′ .lines) l (readingRes (g .reading))) b′ to →
+      Telling log b₀ at₀ b′ t′ to (g .next)
+  unfolding countStep counted lineOf nothing
+  line {g} i e v m w =
+      let r = turn i (f .reached) e {p′ = g .next} (omega arith) refl refl in
+      rw (m, v)
+      (record {
+        held = _;
+        reached = r;
+        wrote = rw (text-turn i (f .reached) e lineOf) (then (f .wrote) (rw (m, v) at w));
+        lines = omega (arith, fold.few r);
+        refused = omega (arith, fold.at-most r (λ t. t .refused) one-refused);
+      })

@@ -1,0 +1,101 @@
+-- What the program `fields` shows as printed is what the record prints.
+use Prim.Native.Nat.{ℕ, _+_}
+use mathlib.Core.Path.{_≡_, refl, sym, ap, _∙_}
+use mathlib.Core.List.{List, [], _∷_}
+use lib.ListN.{length}
+use Rattle.text.specs.Res.{Res, ok, no, bind}
+use Rattle.text.proofs.Finds.{Finds, finds-ok, finds-no, finds-bind, finds-guard}
+use Rattle.part.specs.Part.{bytesOf, textOf, partText, maybeText}
+use Rattle.part.specs.Part as part
+use Rattle.part.specs.declared.Part.{Part}
+use Rattle.table.specs.Table.{readTable, tableRead, tableText}
+use Rattle.table.specs.declared.Table.{Table}
+use Rattle.a_record.specs.ARecord.{aText}
+use Rattle.b_record.specs.BRecord.{bText}
+use Rattle.c_record.specs.CRecord.{declarationText, turnpointText}
+use Rattle.h_record.specs.HRecord.{hText}
+use Rattle.records.specs.Record.{readLine, recordText, recordPiece, recordTable, answerPrinted, reprinted}
+use Rattle.records.specs.declared.Record.{Record}
+use Rattle.records.specs.declared.Record.the-variants as rec
+use Rattle.log.specs.Line.{lineText}
+use Rattle.log.specs.Log.{chunks, readFrom, readings}
+use Rattle.log.specs.Fold.{texts}
+use Rattle.held.specs.declared.Held.{Held}
+use Rattle.walk.specs.Readings.{reader}
+use Rattle.fields_text.specs.Line.{seen, fieldsShown, fieldsLine, fieldsOf, fieldsText}
+use Rattle.promises.specs.Fields.{fieldsAs, lineAs, Shown}
+use Rattle.promises.proofs.Lines.{line-again}
+
+-- ---- a record
+
+-- the text of what was found is the bytes that are shown of it
+text-is-shown : (m : Res Part) (s : List ℕ) → Finds (textOf m s) (λ x. bytesOf (part.shown m) s ≡ x)
+unfolding textOf part.shown bind
+text-is-shown (ok p) s = finds-ok refl
+text-is-shown (no n) s = finds-no
+
+-- the text of a record is its piece
+text-is-piece : (r : Record) (t : Table) (s : List ℕ) → Finds (recordText r t s) (λ x. recordPiece r t s ≡ x)
+unfolding recordText recordPiece aText bText declarationText turnpointText hText tableText partText maybeText
+text-is-piece (rec.A r) t s =
+    finds-bind (text-is-shown _ s) (λ id i. finds-bind (text-is-shown _ s) (λ rest e. finds-ok (rw (i, e))))
+text-is-piece (rec.B r) t s = finds-bind (text-is-shown _ s) (λ rest e. finds-ok (rw e))
+text-is-piece (rec.CDeclaration r) t s = finds-bind (text-is-shown _ s) (λ name e. finds-ok (rw e))
+text-is-piece (rec.CTurnpoint r) t s = finds-bind (text-is-shown _ s) (λ name e. finds-ok (rw e))
+text-is-piece (rec.H r) t s =
+    finds-bind (text-is-shown _ s) (λ m i.
+    finds-bind (text-is-shown _ s) (λ n j.
+    finds-bind (text-is-shown _ s) (λ d k. finds-ok (rw (i, j, k)))))
+text-is-piece rec.I t s = finds-guard _ (λ _. finds-ok refl)
+text-is-piece rec.J t s = finds-guard _ (λ _. finds-ok refl)
+text-is-piece (rec.NotTaken p) t s = text-is-shown _ s
+text-is-piece (rec.Unrecognised p) t s = text-is-shown _ s
+
+-- a record prints the same beside the table of its line and beside its own
+own-table : (r : Record) (s : List ℕ)
+    → recordText r (tableRead (readTable s) .table) s ≡ recordText r (recordTable r s) s
+unfolding recordText recordTable
+own-table (rec.A r) s = refl
+own-table (rec.B r) s = refl
+own-table (rec.CDeclaration r) s = refl
+own-table (rec.CTurnpoint r) s = refl
+own-table (rec.H r) s = refl
+own-table rec.I s = refl
+own-table rec.J s = refl
+own-table (rec.NotTaken p) s = refl
+own-table (rec.Unrecognised p) s = refl
+
+-- an accepted line prints as the piece of its record
+piece-printed : (s : List ℕ) (r : Record) → readLine s ≡ ok r → reprinted s ≡ ok (recordPiece r (recordTable r s) s)
+unfolding reprinted answerPrinted bind
+piece-printed s r e =
+    let a = line-again s .found r e in
+    let text = sym (own-table r s) ∙ sym (a .prints) in
+    rw e (text ∙ ap ok (sym (text-is-piece r (recordTable r s) s .found (a .text) text)))
+
+-- ---- a log
+
+-- the fields of a line are those with the line read and printed again in them
+fields-printed : (m : Res Record) (h : Held) (names s : List ℕ)
+    → readLine s ≡ m → fieldsShown m h names s ≡ fieldsAs m (reprinted s) h names s
+unfolding fieldsShown seen fieldsAs
+fields-printed (ok r) h names s e = rw (piece-printed s r e)
+fields-printed (no n) h names s e = refl
+
+-- so are the texts of all lines that are read
+lines-printed : (names : List ℕ) (n p : ℕ) (h : Held) (cs : List (List ℕ))
+    → texts (fieldsOf names) (readFrom reader n p h cs) ≡ texts (lineAs names) (readFrom reader n p h cs)
+unfolding readFrom texts fieldsOf fieldsLine lineAs
+lines-printed names n p h [] = refl
+lines-printed names n p h (c ∷ cs) =
+    let l = lineText c in
+    let next = reader .after p h l in
+    rw (fields-printed (readLine l) next names l refl, lines-printed names (n + 1) (p + length c) next cs)
+
+-- both statements hold
+pub shown : Shown
+unfolding fieldsText readings
+shown = record {
+  piece = piece-printed;
+  fields = λ names log. lines-printed names 0 0 (reader .start) (chunks log);
+}

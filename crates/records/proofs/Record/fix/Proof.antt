@@ -1,0 +1,28 @@
+use borrow.Author.Needs.{needs}
+use Rattle.records.specs.Record.{recordFix}
+use Rattle.records.proofs.Record.fix.Statement.{statement}
+use Rattle.records.proofs.Record.fix.Tie as tie
+
+pub fix-spec : {M : Type 1} → statement M
+unfolding recordFix
+fix-spec =
+    tie.close
+    (tie.spec
+    (search needs)
+    (search needs)
+    (search needs)
+    (search needs)
+    (search needs)
+    (search needs)
+    (search needs)
+    (search needs)
+    (search needs)
+    (λ c. rw (c .before .self .given .1))
+    (λ c. rw (c .enum-told .given .1))
+    (λ c. rw (c .enum-told2 .given .1))
+    (λ c. rw (c .enum-told3 .given .1))
+    (λ c. rw (c .enum-told4 .given .1))
+    (λ c. rw (c .enum-told5 .given .1))
+    (λ c. rw (c .enum-told6 .given .1))
+    (λ c. rw (c .enum-told7 .given .1))
+    (λ c. rw (c .enum-told8 .given .1)))
