@@ -7,11 +7,11 @@ use Rattle.text.specs.Res.{_≤?_}
 use Rattle.text.specs.Word.{largest}
 use Rattle.text.proofs.Steps.{yes≤, no≤, is≤, isnt≤, tested, fails, holds}
 use Rattle.log.proofs.Ends.{either}
-use Rattle.fields_text.specs.Lines.{isReady}
-use Rattle.fields_text.proofs.lines.is_ready.Statement.{statement}
-use Rattle.fields_text.proofs.lines.is_ready.Tie as tie
+use Rattle.products.specs.Feed.{isReady}
+use Rattle.products.proofs.is_ready.Statement.{statement}
+use Rattle.products.proofs.is_ready.Tie as tie
 
--- there is room for n behind a
+-- There is room for n behind a.
 room : (a n : ℕ) → a ≤ largest → leb n (largest - a) ≡ (a + n ≤? largest)
 room a n h =
     sym (tested n (largest - a))
@@ -25,4 +25,10 @@ is-ready-spec =
     (search needs)
     (λ c. sym (fails _ (no≤ (omega arith))))
     (search needs)
-    (λ c. room _ _ (omega arith) ∙ sym (holds (yes≤ (omega arith)) refl)))
+    (λ c. sym (holds (yes≤ (omega arith)) (fails _ (no≤ (omega arith)))))
+    (search needs)
+    (λ c. sym (holds (yes≤ (omega arith)) (holds (yes≤ (omega arith)) (fails _ (no≤ (omega arith))))))
+    (search needs)
+    (λ c.
+    room _ _ (omega arith)
+    ∙ sym (holds (yes≤ (omega arith)) (holds (yes≤ (omega arith)) (holds (yes≤ (omega arith)) refl)))))

@@ -1,7 +1,7 @@
 use borrow.Author.Needs.{needs}
 use mathlib.Core.Path.{refl, sym, _∙_}
-use Rattle.fields_text.proofs.lines.put_lines.Statement.{statement}
-use Rattle.fields_text.proofs.lines.put_lines.Tie as tie
+use Rattle.products.proofs.put_lines.Statement.{statement}
+use Rattle.products.proofs.put_lines.Tie as tie
 
 ready : tie.Need-returns
 ready c =
