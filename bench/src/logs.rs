@@ -53,7 +53,7 @@ pub fn damaged(size: usize) -> Log {
         3 => format!("{}é", fix(i)),
         4 => fix(i).replacen("B0", "B9", 1).replacen("B1", "B9", 1),
         5 => format!("{}-x123", &fix(i)[..30]),
-        6 => "I033638FXA3940SIU41430NL".into(),
+        6 => "I033638FXA3940SIU4x43ENL".into(),
         7 => "C150826101530160799000102500K Tr".replace("82610", "8x610"),
         8 => "C5111359X00101899WLasham Clubhouse".into(),
         _ => "HF".into(),

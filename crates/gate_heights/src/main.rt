@@ -7,6 +7,7 @@ use held::Held;
 use listing_text::listing::print_listing;
 use print::number::put_i16;
 use print::printed::Printed;
+use records::Reading;
 use records::Record;
 
 fn say(text: &[u8], n: usize) {
@@ -68,16 +69,16 @@ fn fields(line: &[u8]) {
     say(&text, n);
 }
 
-// The printed line, of a fix in which the heights stand as they were read.
+// What `Record::print` writes. The line has a sign that a printed line has not, so its own bytes do not pass for that.
 fn printed(line: &[u8]) {
     let mut text = [0u8; 64];
     io::write_all(1, b"printed: ");
-    match BRecord::parse(line) {
-        BRead::Ok(fix) => {
-            let answer = fix.print(line, &mut text);
+    match Record::parse_line(line) {
+        Reading::Accepted(record) => {
+            let answer = record.print(record.table(line), line, &mut text);
             say_printed(answer, &text);
         }
-        BRead::Refused(_) => {
+        Reading::Refused(_) => {
             io::write_all(1, b"refused");
         }
     }
@@ -85,7 +86,7 @@ fn printed(line: &[u8]) {
 }
 
 fn main() {
-    let line = b"B1015304712345N01102500EA0152301561";
+    let line = b"B1015304712345N01102500EA+152301561";
     record(line);
     listing(line);
     fields(line);

@@ -38,6 +38,10 @@ fn tables() {
     list(b"a refused I line removes the table", b"I00\nI0\n");
     list(b"an accepted one replaces it", b"I0\nI00\nI00\nJ00\n");
     list(b"a J line does not touch it", b"J00\nJ0\n");
+    list(
+        b"nor does one that is refused, after an I line",
+        b"HFFTY:\nI013638FXA\nJ0\n",
+    );
 }
 
 fn letters() {

@@ -1,3 +1,4 @@
 pub mod Answers
 pub mod Telling
 pub mod Room
+pub mod Limit

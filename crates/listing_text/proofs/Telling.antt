@@ -1,16 +1,19 @@
 -- The loop over a log that counts and lists its lines.
 use Prim.Native.Nat.{ℕ, _+_, _≤_, _<_}
-use mathlib.Core.Path.{_≡_, refl, _∙_}
+use mathlib.Core.Path.{_≡_, refl, sym, _∙_}
 use mathlib.Core.List.{List}
 use native.Mathlib.Omega.{arith}
 use lib.ListN.{length, take}
 use lib.Seq.{take-all}
+use Rattle.text.specs.Res.{Res}
 use Rattle.text.specs.Word.{largest}
+use Rattle.text.proofs.Steps.{first, yes≤, holds}
 use Rattle.part.specs.Part.{partBytes}
 use Rattle.put.specs.Put.{Wrote}
 use Rattle.put.proofs.Writing.{then}
 use Rattle.put.proofs.Writing as writing
 use Rattle.records.specs.Record.{readingRes}
+use Rattle.records.specs.declared.Record.{Record}
 use Rattle.log.specs.Log.{readings}
 use Rattle.log.specs.Fold.{texts, fresh, readOn}
 use Rattle.log.proofs.Pieces.{all-read, no-text}
@@ -22,7 +25,7 @@ use Rattle.walk.specs.Readings.{Line-read, reader}
 use Rattle.walk.specs.declared.turn.Got.{Got}
 use Rattle.walk.proofs.Turns.{turn, text-turn, one-at-most}
 use Rattle.listing_text.specs.Line.{listingLine}
-use Rattle.listing_text.specs.Trailer.{isRefusal, nothing, counted, countStep, trailerText}
+use Rattle.listing_text.specs.Trailer.{isRefusal, nothing, counted, tallied, countStep, trailerText}
 use Rattle.listing_text.specs.Listing.{lineOf, listed, listingText}
 use Rattle.listing_text.specs.declared.trailer.Trailer.{Trailer}
 
@@ -31,12 +34,14 @@ pub record Telling (log b₀ : List ℕ) (at₀ : ℕ) (b : List ℕ) (t : Trail
   pub held : Held
   pub reached : Reached reader countStep (fresh reader nothing) log place (record { number = t .lines; place = place; held = held; made = t })
   pub wrote : Wrote b₀ at₀ (texts lineOf (readOn reader (fresh reader nothing) (take place log))) b end
+  pub short : length log ≤ largest
   pub lines : t .lines ≤ place
   pub refused : t .refused ≤ place
 
-pub at-start : (log b : List ℕ) (at : ℕ) → length b < largest → at ≤ largest → Telling log b at b nothing at 0
+pub at-start : (log b : List ℕ) (at : ℕ) → length log ≤ largest → length b < largest → at ≤ largest → Telling log b at b nothing at 0
 unfolding nothing
-at-start log b at h k = record {
+at-start log b at short h k = record {
+  short = short;
   held = _;
   reached = fold.at-start;
   wrote = rw (no-text reader lineOf (fresh reader nothing)) (writing.nothing b at h k);
@@ -44,8 +49,14 @@ at-start log b at h k = record {
   refused = omega arith;
 }
 
+-- counts below the largest number go up by a reading
+pub tallied-is : (t : Trailer) (p : ℕ) (s : List ℕ) (m : Res Record) → t .lines < largest → t .refused < largest →
+    tallied t p s m ≡ counted t p s m
+unfolding tallied
+tallied-is t p s m h k = sym (first _ (holds (yes≤ (omega arith)) (yes≤ (omega arith))) refl)
+
 -- a line raises the count of refused lines by at most one
-one-refused : (t : Trailer) (x : Line-read) → countStep t x .refused ≤ t .refused + 1
+pub one-refused : (t : Trailer) (x : Line-read) → countStep t x .refused ≤ t .refused + 1
 unfolding countStep counted
 one-refused t x = omega (arith, one-at-most (isRefusal (x .answer)))
 
@@ -61,16 +72,18 @@ module _ {log b₀ b : List ℕ} {at₀ end place : ℕ} {t : Trailer} (f : Tell
   -- a line that was counted and then written
   pub line : {g : Got} {l b′ : List ℕ} {to : ℕ} {t′ : Trailer} → place < length log → g ≡ gotAt place log →
       l ≡ partBytes (g .line) log →
-      t′ ≡ counted t place l (readingRes (g .reading)) → Wrote b end (listingLine (t′ .lines) l (readingRes (g .reading))) b′ to →
+      t′ ≡ tallied t place l (readingRes (g .reading)) → Wrote b end (listingLine (t′ .lines) l (readingRes (g .reading))) b′ to →
       Telling log b₀ at₀ b′ t′ to (g .next)
   unfolding countStep counted lineOf nothing
-  line {g} i e v m w =
+  line {g} i e v k w =
+      let m = k ∙ tallied-is t place _ _ (omega (arith, f .lines, f .short)) (omega (arith, f .refused, f .short)) in
       let r = turn i (f .reached) e {p′ = g .next} (omega arith) refl refl in
       rw (m, v)
       (record {
         held = _;
         reached = r;
         wrote = rw (text-turn i (f .reached) e lineOf) (then (f .wrote) (rw (m, v) at w));
+        short = f .short;
         lines = omega (arith, fold.few r);
         refused = omega (arith, fold.at-most r (λ t. t .refused) one-refused);
       })

@@ -1,3 +1,4 @@
 pub mod Line
 pub mod Trailer
 pub mod Listing
+pub mod Paper

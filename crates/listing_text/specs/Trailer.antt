@@ -3,6 +3,7 @@ use Prim.Native.Nat.{ℕ, _+_}
 use mathlib.Core.Bool.{Bool}
 use mathlib.Core.List.{List, [], _∷_, _++_}
 use Rattle.text.specs.Res.{Res, pick, _≤?_, _=?_, _∧?_}
+use Rattle.text.specs.Word.{largest}
 use Rattle.records.specs.declared.Record.{Record}
 use Rattle.text.specs.Line.{begins}
 use Rattle.walk.specs.Readings.{Line-read}
@@ -32,7 +33,11 @@ counted t p s m = record {
   «in_force» = forceAfter (t .«in_force») p s m;
 }
 
--- The same as a step over readings.
+-- The same in numbers of 64 bits: where a count would pass them, the figures stay.
+unfoldable pub tallied : Trailer → ℕ → List ℕ → Res Record → Trailer
+tallied t p s m = pick ((t .lines + 1 ≤? largest) ∧? (t .refused + 1 ≤? largest)) (counted t p s m) t
+
+-- Over one reading more, as a step.
 unfoldable pub countStep : Trailer → Line-read → Trailer
 countStep t x = counted t (x .place) (x .line) (x .answer)
 

@@ -1,42 +1,14 @@
 // The whole listing of a log.
 ghost use mathlib.Core.Path.{_≡_};
-ghost use Prim.Native.Nat.{_<_};
 ghost use Rattle.text.specs.Res.{ok, _≤?_};
-ghost use Rattle.text.specs.Word.{largest};
 ghost use Rattle.put.specs.Put.{Wrote};
 ghost use Rattle.print.specs.Print.{Prints};
-ghost use Rattle.records.specs.Record.{readingRes};
-ghost use Rattle.listing_text.specs.Trailer.{counted};
 ghost use Rattle.listing_text.specs.Listing.{listingText, roomFor};
 use crate::put_line;
 use crate::trailer::Trailer;
-use crate::trailer::is_refusal;
 use print::printed::Printed;
-use records::Reading;
 use text::refusal::Refusal;
 use walk::turn::read_at;
-
-// The figures over one reading more.
-fn count_line(t: Trailer, place: usize, line: &[u8], reading: Reading) -> Trailer
-    requires { ⌜ (t .lines < largest) × (t .refused < largest) ⌝ }
-    ensures { λ r. ⌜ r ≡ counted t place (now (line .entry)) (readingRes reading) ⌝ }
-{
-    let before = t.in_force;
-    let in_force = before.after(place, line, reading);
-    let lines = t.lines + 1;
-    if is_refusal(reading) {
-        return Trailer {
-            in_force,
-            lines,
-            refused: t.refused + 1,
-        };
-    }
-    Trailer {
-        in_force,
-        lines,
-        refused: t.refused,
-    }
-}
 
 // What a fresh walk over the log reads, line by line, and the trailer.
 fn put_listing(log: &[u8], buf: &mut [u8], at: usize) -> usize
@@ -50,7 +22,7 @@ fn put_listing(log: &[u8], buf: &mut [u8], at: usize) -> usize
         let part = got.line;
         let reading = got.reading;
         let line = part.view(log);
-        trailer = count_line(trailer, place, line, reading);
+        trailer = trailer.after(place, line, reading);
         end = put_line(trailer.lines, line, reading, buf, end);
         place = got.next;
     }

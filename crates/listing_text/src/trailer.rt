@@ -2,7 +2,7 @@
 ghost use mathlib.Core.Path.{_≡_};
 ghost use Rattle.put.specs.Put.{Wrote};
 ghost use Rattle.records.specs.Record.{readingRes};
-ghost use Rattle.listing_text.specs.Trailer.{nothing, isRefusal, forceAfter, offsetText, figures, trailerText};
+ghost use Rattle.listing_text.specs.Trailer.{nothing, isRefusal, tallied, forceAfter, offsetText, figures, trailerText};
 use print::number::put_nat;
 use put::put_byte;
 use records::Reading;
@@ -64,6 +64,33 @@ impl Trailer {
             in_force: Offset::Missing,
             lines: 0,
             refused: 0,
+        }
+    }
+
+    // Over one reading more. Where a count would pass 64 bits, the figures stay.
+    pub fn after(self, place: usize, line: &[u8], reading: Reading) -> Trailer
+        ensures { λ r. ⌜ r ≡ tallied self place (now (line .entry)) (readingRes reading) ⌝ }
+    {
+        if self.lines == 0xffff_ffff_ffff_ffff {
+            return self;
+        }
+        if self.refused == 0xffff_ffff_ffff_ffff {
+            return self;
+        }
+        let before = self.in_force;
+        let in_force = before.after(place, line, reading);
+        let lines = self.lines + 1;
+        if is_refusal(reading) {
+            return Trailer {
+                in_force,
+                lines,
+                refused: self.refused + 1,
+            };
+        }
+        Trailer {
+            in_force,
+            lines,
+            refused: self.refused,
         }
     }
 

@@ -28,7 +28,7 @@ loop-again c =
     let read = view .before .before in
     let test = read .before in
     line (test .before .loop .inv) (test .loop-test .taken) (read .read-at .ensures) (view .view .ensures .bytes)
-    (count .count-line .ensures) (put .put-line .ensures)
+    (count .after .ensures) (put .put-line .ensures)
 
 returns : tie.Need-returns Inv-loop μ-loop
 returns c =
@@ -43,10 +43,10 @@ put-listing-spec =
     Inv-loop
     μ-loop
     (search needs)
-    (λ c. rw (c .new .ensures) (at-start _ _ _ (omega arith) (omega arith)))
+    (λ c. rw (c .new .ensures) (at-start _ _ _ (omega arith) (omega arith) (omega arith)))
     (search needs)
     (search needs)
-    (λ c κs. (omega arith, omega arith))
+    (search needs)
     (search needs)
     loop-less
     loop-again

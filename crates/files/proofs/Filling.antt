@@ -1,0 +1,51 @@
+-- Lent bytes that are filled by calls of `read`, each behind what came before.
+use Prim.Native.Nat.{ℕ, _+_, _≤_}
+use mathlib.Core.Path.{_≡_, refl, sym, ap, _∙_}
+use mathlib.Core.List.{List}
+use native.Mathlib.Omega.{arith}
+use lib.ListN.{length, take}
+use lib.Seq.{take-take}
+use Rattle.files.specs.Input.{CameBehind, FilledBehind, Within}
+use Rattle.files.specs.declared.input.Came.{Came}
+use Rattle.files.specs.declared.input.Came.the-variants as came
+use Rattle.files.specs.declared.input.Filled.{Filled}
+use Rattle.files.specs.declared.input.Filled.the-variants as filled
+
+-- So far they are filled up to a place.
+pub record Filling (from : ℕ) (b₀ b : List ℕ) (at : ℕ) : Type 0 where
+  pub long : length b ≡ length b₀
+  pub front : take from b ≡ take from b₀
+  pub behind : from ≤ at
+
+pub at-start : {from : ℕ} {b : List ℕ} → Filling from b b from
+at-start = record { long = refl; front = refl; behind = omega arith }
+
+module _ {from at : ℕ} {b₀ b : List ℕ} (f : Filling from b₀ b at) where
+  -- they are full
+  pub full : FilledBehind from b₀ b filled.Full
+  full = record { long = f .long; front = f .front; inside = tt }
+
+  pub failed : FilledBehind from b₀ b filled.Failed
+  failed = record { long = f .long; front = f .front; inside = tt }
+
+  pub ended : at ≤ length b → FilledBehind from b₀ b (filled.Ended at)
+  ended h = record { long = f .long; front = f .front; inside = (f .behind, omega (arith, f .long)) }
+
+  inside : (l : List ℕ) → take from (take at l) ≡ take from l
+  inside l = take-take from at l (f .behind)
+
+  -- one call more
+  pub next : {b′ : List ℕ} {r : Came} (to : ℕ) → CameBehind at b b′ r → at ≤ to → Filling from b₀ b′ to
+  next to k h = record {
+    long = k .long ∙ f .long;
+    front = sym (inside _) ∙ ap (take from) (k .front) ∙ inside _ ∙ f .front;
+    behind = omega (arith, f .behind);
+  }
+
+-- ---- what a caller goes on with
+
+-- where the input ended is inside
+pub within : (r : Filled) {from : ℕ} {b b′ : List ℕ} → FilledBehind from b b′ r → Within r b′
+within (filled.Ended n) f = omega (arith, f .inside .1, f .long)
+within filled.Full f = tt
+within filled.Failed f = tt

@@ -1,0 +1,4 @@
+pub mod Calls
+pub mod Filling
+pub mod Showing
+pub mod Zeros

@@ -1,0 +1,5 @@
+pub mod Errno
+pub mod Input
+pub mod Output
+pub mod Terminal
+pub mod Outcome

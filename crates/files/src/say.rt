@@ -1,0 +1,63 @@
+// Sentences on standard error. Each names the program and the file; a byte of a name that is no printable character
+// shows as `?`.
+ghost use mathlib.Core.Path.{_≡_};
+ghost use lib.ListN.{length};
+use crate::outcome::Outcome;
+use crate::output::write_all;
+use crate::terminal::make_visible;
+use print::number::put_nat;
+use put::put_bytes;
+
+fn message_buffer() -> [u8; 8192]
+    ensures { λ r. ⌜ 8192 ≡ length r ⌝ }
+{
+    [0; 8192]
+}
+
+// The program, the file, and what about it.
+fn put_start(file: &[u8], what: &[u8], buf: &mut [u8]) -> usize {
+    let name = put_bytes(buf, 0, b"tokelivo: ");
+    let colon = put_bytes(buf, name, file);
+    let words = put_bytes(buf, colon, b": ");
+    let end = put_bytes(buf, words, what);
+    make_visible(buf);
+    end
+}
+
+// What went wrong, and why, as errno has it.
+pub fn fail(file: &[u8], what: &[u8]) {
+    let mut text = message_buffer();
+    let end = put_start(file, what, &mut text);
+    if end <= text.len() {
+        os::fail(&text[0..end]);
+    }
+}
+
+// What went wrong at a line of the log, by the number of lines before it.
+fn fail_at(file: &[u8], before: u64, what: &[u8]) {
+    let mut text = message_buffer();
+    let number = put_start(file, b"line ", &mut text);
+    if before < 0xffff_ffff_ffff_ffff {
+        let words = put_nat(&mut text, number, before + 1, 1);
+        let lf = put_bytes(&mut text, words, what);
+        let end = put_bytes(&mut text, lf, b"\n");
+        if end <= text.len() {
+            write_all(2, &text[0..end]);
+        }
+    }
+}
+
+// A sentence where something went wrong; where nothing did, 0 on the descriptor `told` if there is one, for whoever
+// started the program: Rattle's programs end with status 0 whatever they saw.
+pub fn tell(told: i32, file: &[u8], outcome: Outcome) {
+    match outcome {
+        Outcome::Done => {
+            write_all(told, b"0");
+        }
+        Outcome::NotRead => fail(file, b"cannot be read to its end"),
+        Outcome::LongLine(before) => fail_at(file, before, b" is longer than a mebibyte"),
+        Outcome::NoRoom(before) => fail_at(file, before, b" has a text longer than its room"),
+        Outcome::NotWritten => fail(b"standard output", b"cannot be written"),
+        Outcome::Closed => {}
+    }
+}

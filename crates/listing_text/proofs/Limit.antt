@@ -1,0 +1,28 @@
+-- The text of the paper's program, by the length of the log.
+use Prim.Native.Nat.{ℕ, _≤_, _<_}
+use mathlib.Core.Path.{_≡_, refl, sym}
+use mathlib.Core.List.{List}
+use native.Mathlib.Omega.{arith}
+use lib.ListN.{length}
+use Rattle.text.specs.Res.{_≤?_}
+use Rattle.text.proofs.Steps.{first, second, yes≤, no≤, is≤, isnt≤}
+use Rattle.log.proofs.Ends.{either}
+use Rattle.listing_text.specs.Listing.{listingText, roomFor}
+use Rattle.listing_text.specs.Paper.{tooLong, paperText, PaperHasRoom}
+use Rattle.listing_text.proofs.Room.{has-room}
+
+pub paper-short : (log : List ℕ) → length log ≤ 65536 → listingText log ≡ paperText log
+unfolding paperText
+paper-short log h = first _ (yes≤ h) refl
+
+pub paper-long : (log : List ℕ) → 65536 < length log → tooLong ≡ paperText log
+unfolding paperText
+paper-long log h = second _ (no≤ h) refl
+
+-- it has room in the bytes that the program has
+pub paper-has-room : PaperHasRoom
+unfolding roomFor tooLong
+paper-has-room log =
+    either (length log ≤? 65536)
+    (λ e. rw (sym (paper-short log (is≤ e))) (omega (arith, has-room log (omega (arith, is≤ e)), is≤ e)))
+    (λ e. rw (sym (paper-long log (isnt≤ e))) (omega arith))

@@ -1,0 +1,34 @@
+use borrow.Author.Needs.{needs}
+use Prim.Native.Nat.{ℕ, _+_, _-_, _≤_}
+use mathlib.Core.Path.{_≡_, refl, sym, _∙_}
+use native.Mathlib.Omega.{arith}
+use lib.Dec.{leb}
+use Rattle.text.specs.Res.{_≤?_}
+use Rattle.text.specs.Word.{largest}
+use Rattle.text.proofs.Steps.{yes≤, no≤, is≤, isnt≤, tested, fails, holds}
+use Rattle.log.proofs.Ends.{either}
+use Rattle.products.specs.Feed.{isReady}
+use Rattle.products.proofs.is_ready.Statement.{statement}
+use Rattle.products.proofs.is_ready.Tie as tie
+
+-- There is room for n behind a.
+room : (a n : ℕ) → a ≤ largest → leb n (largest - a) ≡ (a + n ≤? largest)
+room a n h =
+    sym (tested n (largest - a))
+    ∙ either (a + n ≤? largest) (λ e. yes≤ (omega (arith, is≤ e)) ∙ sym e) (λ e. no≤ (omega (arith, isnt≤ e)) ∙ sym e)
+
+pub is-ready-spec : {M : Type 1} → statement M
+unfolding isReady
+is-ready-spec =
+    tie.close
+    (tie.spec
+    (search needs)
+    (λ c. sym (fails _ (no≤ (omega arith))))
+    (search needs)
+    (λ c. sym (holds (yes≤ (omega arith)) (fails _ (no≤ (omega arith)))))
+    (search needs)
+    (λ c. sym (holds (yes≤ (omega arith)) (holds (yes≤ (omega arith)) (fails _ (no≤ (omega arith))))))
+    (search needs)
+    (λ c.
+    room _ _ (omega arith)
+    ∙ sym (holds (yes≤ (omega arith)) (holds (yes≤ (omega arith)) (holds (yes≤ (omega arith)) refl)))))

@@ -1,0 +1,18 @@
+use borrow.Author.Needs.{needs}
+use native.Mathlib.Omega.{arith}
+use Rattle.put.proofs.Writing.{nothing}
+use Rattle.products.specs.Product.{closing}
+use Rattle.products.proofs.put_closing.Statement.{statement}
+use Rattle.products.proofs.put_closing.Tie as tie
+
+pub put-closing-spec : {M : Type 1} → statement M
+unfolding closing
+put-closing-spec =
+    tie.close
+    (tie.spec
+    (search needs)
+    (search needs)
+    (search needs)
+    (search needs)
+    (λ c. let put = c .before .before in rw (put .before .before .enum-told .given .1) (put .put .ensures))
+    (λ c. rw (c .enum-told2 .given .1) (nothing _ _ (omega arith) (omega arith))))

@@ -1,0 +1,44 @@
+-- What is written of a piece of a log, and what is carried on.
+use Prim.Native.Nat.{ℕ, _+_}
+use mathlib.Core.Path.{_≡_}
+use mathlib.Core.Bool.{Bool, true, false}
+use mathlib.Core.List.{List}
+use lib.ListN.{length}
+use Rattle.text.specs.Res.{_≤?_, _∧?_}
+use Rattle.text.specs.Word.{largest}
+use Rattle.log.specs.Fold as fold
+use Rattle.log.specs.Taking.{Took}
+use Rattle.held.specs.declared.Held.{Held}
+use Rattle.walk.specs.Walk as walk
+use Rattle.walk.specs.Readings.{reader}
+use Rattle.listing_text.specs.Trailer.{nothing, countStep}
+use Rattle.listing_text.specs.declared.trailer.Trailer.{Trailer}
+use Rattle.products.specs.Product.{textOf}
+use Rattle.products.specs.declared.Product.{Product}
+use Rattle.products.specs.declared.Carried.{Carried}
+use Rattle.products.specs.declared.Fed.{Fed}
+
+-- Before the first piece.
+unfoldable pub fresh : Carried
+fresh = record { walk = walk.fresh; trailer = nothing }
+
+-- The same as every fold carries it.
+abbrev pub view : Carried → fold.Carried Held Trailer
+view c = record { number = c .walk .at .number; place = c .walk .at .place; held = c .walk .held; made = c .trailer }
+
+-- No place and no count passes 64 bits over n bytes more.
+unfoldable pub isReady : Carried → ℕ → Bool
+isReady c n =
+    (c .walk .at .place + n ≤? largest)
+    ∧? (c .walk .at .number + n ≤? largest)
+    ∧? (c .trailer .lines + n ≤? largest)
+    ∧? (c .trailer .refused + n ≤? largest)
+
+-- Of a piece s lines are taken into the lent bytes while their text has room; where a count would pass 64 bits, none.
+abbrev pub FedOf : Bool → Product → List ℕ → Carried → List ℕ → List ℕ → List ℕ → Fed → Type 0
+FedOf true p names c s b b′ r =
+    Took reader countStep (textOf p names) (view c) s b b′ (view (r .carried)) (r .taken) (r .end)
+FedOf false p names c s b b′ r = (r ≡ record { carried = c; taken = 0; end = 0 }) × (b′ ≡ b)
+
+abbrev pub Feeds : Product → List ℕ → Carried → List ℕ → List ℕ → List ℕ → Fed → Type 0
+Feeds p names c s b b′ r = FedOf (isReady c (length s)) p names c s b b′ r

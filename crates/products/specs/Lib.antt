@@ -1,0 +1,3 @@
+pub mod Product
+pub mod Feed
+pub mod Whole

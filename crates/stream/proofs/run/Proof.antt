@@ -1,0 +1,58 @@
+use borrow.Author.Needs.{needs}
+use Prim.Native.Nat.{_-_}
+use mathlib.Core.Path.{_≡_, refl, _∙_}
+use mathlib.Core.Bool.{true}
+use lib.ListN.{length}
+use Rattle.text.specs.Word.{largest}
+use Rattle.products.specs.Feed.{fresh}
+use Rattle.files.proofs.Filling.{within}
+use Rattle.stream.specs.Stream.{Goes}
+use Rattle.stream.proofs.Streaming.{goes-nowhere, goes-last-of, goes-more, goes-on, goes-turned}
+use Rattle.stream.proofs.run.Statement.{statement}
+use Rattle.stream.proofs.run.Tie as tie
+
+abbrev Inv-loop : tie.InvT-loop
+Inv-loop product from win₀ names to out₀ carried₀ fill₀ turns₀ win out carried fill turns =
+    Goes fresh carried true × (length win ≡ length win₀) × (length out ≡ length out₀)
+
+abbrev μ-loop : tie.MeasureT-loop
+μ-loop product from win₀ names to out₀ carried₀ fill₀ turns₀ win out carried fill turns = largest - turns
+
+-- one turn more
+turned : (c : tie.After-one-turn Inv-loop μ-loop) →
+    Goes fresh (c .one-turn .result .carried) (c .one-turn .result .more)
+turned c =
+    let read = c .before .before .before .before .before in
+    let loop = read .before .before .before .loop in
+    goes-on (loop .inv .0)
+    (goes-turned (read .read-on .result) (loop .carried) (read .read-on .last .1 .0) (c .one-turn .last .1 .1 .1 .0)
+    (c .one-turn .result) (c .one-turn .ensures))
+
+more : tie.Need-loop-again Inv-loop μ-loop
+more c =
+    let turn = c .before .before .before .before .before .before .before in
+    let k = turn .one-turn .kept in
+    let read = turn .before .before .before .before .before in
+    let l = read .read-on .kept in
+    let i = read .before .before .before .loop .inv in
+    (goes-more (c .if1 .left) (turned turn), k .1 .1 .1 .0 ∙ l .1 .0 ∙ i .1, k .1 .1 .1 .1 .1 .1 .0 ∙ i .2)
+
+pub run-spec : {M : Type 1} → statement M
+run-spec =
+    tie.close
+    (tie.spec
+    Inv-loop
+    μ-loop
+    (search needs)
+    (λ c. (rw (c .new .ensures) goes-nowhere, refl, refl))
+    (search needs)
+    (search needs)
+    (λ c κs. let read = c .before .before .before .before in within (read .read-on .result) (read .read-on .ensures))
+    (search needs)
+    (search needs)
+    (λ c. goes-last-of (turned (c .before .before .before .before .before .before .before)))
+    (search needs)
+    more
+    (search needs)
+    (search needs)
+    (λ c. goes-last-of (c .before .loop .inv .0)))

@@ -1,0 +1,25 @@
+use borrow.Author.Needs.{needs}
+use mathlib.Core.Path.{refl}
+use Rattle.text.proofs.Steps.{never}
+use Rattle.words.proofs.names.read_names.Statement.{statement}
+use Rattle.words.proofs.names.read_names.Tie as tie
+
+pub read-names-spec : {M : Type 1} → statement M
+read-names-spec =
+    tie.close
+    (tie.spec
+    (λ c h. never h refl)
+    (search needs)
+    (search needs)
+    (λ c h. never h refl)
+    (search needs)
+    (search needs)
+    (search needs)
+    (search needs)
+    (search needs)
+    (search needs)
+    (search needs)
+    (search needs)
+    (search needs)
+    (search needs)
+    (search needs))

@@ -1,0 +1,174 @@
+// The desk's program, by the words that it is started with.
+mod names;
+
+ghost use mathlib.Core.Path.{_≡_};
+ghost use Prim.Native.Nat.{_≤_};
+ghost use lib.ListN.{length};
+use crate::names::read_names;
+use files::output::write_all;
+use files::say::fail;
+use files::say::tell;
+use products::Product;
+use stream::run;
+
+// A line is at most this long.
+fn window() -> [u8; 1048576]
+    ensures { λ r. ⌜ 1048576 ≡ length r ⌝ }
+{
+    [0; 1048576]
+}
+
+// Room for the text of such a line with the values of 4,096 names, and for many lines with fewer.
+fn text_buffer() -> [u8; 1310720]
+    ensures { λ r. ⌜ 1310720 ≡ length r ⌝ }
+{
+    [0; 1310720]
+}
+
+// 4,096 names of three bytes.
+fn name_buffer() -> [u8; 12288]
+    ensures { λ r. ⌜ 12288 ≡ length r ⌝ }
+{
+    [0; 12288]
+}
+
+fn run_on(product: Product, fd: i32, file: &[u8], names: &[u8], told: i32) {
+    let mut win = window();
+    let mut out = text_buffer();
+    let ended = run(product, fd, &mut win, names, 1, &mut out);
+    let outcome = ended.outcome;
+    tell(told, file, outcome);
+}
+
+// Standard input, or the file with this name.
+fn run_file(product: Product, file: &[u8], names: &[u8], told: i32) {
+    if file.len() == 1 {
+        if file[0] == b'-' {
+            run_on(product, 0, b"standard input", names, told);
+            return;
+        }
+    }
+    let fd = os::open_read(file);
+    if fd < 0 {
+        fail(file, b"cannot be opened");
+        return;
+    }
+    run_on(product, fd, file, names, told);
+}
+
+// The file is the argument behind the word at `at`.
+fn run_named(product: Product, at: usize, names: &[u8], told: i32)
+    requires { ⌜ at ≤ 2 ⌝ }
+{
+    let mut file = io::buffer();
+    let n = os::arg(at + 1, &mut file);
+    if os::errno() != 0 {
+        fail(b"the file's name", b"cannot be taken");
+        return;
+    }
+    run_file(product, &file[0..n], names, told);
+}
+
+// With the names that follow the file.
+fn run_fields(at: usize, words: usize, told: i32)
+    requires { ⌜ at ≤ 2 ⌝ }
+{
+    let mut names = name_buffer();
+    if words <= at + 2 {
+        run_named(Product::Fields, at, b"", told);
+        return;
+    }
+    let count = words - at - 2;
+    if read_names(at + 2, count, &mut names) {
+        run_named(Product::Fields, at, &names[0..3 * count], told);
+    }
+}
+
+// The word is `list`.
+fn is_list(word: [u8; 8], n: usize) -> bool {
+    if n != 4 {
+        return false;
+    }
+    if word[0] != b'l' {
+        return false;
+    }
+    if word[1] != b'i' {
+        return false;
+    }
+    if word[2] != b's' {
+        return false;
+    }
+    word[3] == b't'
+}
+
+// The word is `fields`.
+fn is_fields(word: [u8; 8], n: usize) -> bool {
+    if n != 6 {
+        return false;
+    }
+    if word[0] != b'f' {
+        return false;
+    }
+    if word[1] != b'i' {
+        return false;
+    }
+    if word[2] != b'e' {
+        return false;
+    }
+    if word[3] != b'l' {
+        return false;
+    }
+    if word[4] != b'd' {
+        return false;
+    }
+    word[5] == b's'
+}
+
+// A word of one digit names a descriptor; -1 is none.
+fn descriptor(word: [u8; 8], n: usize) -> i32 {
+    if n != 1 {
+        return -1;
+    }
+    if word[0] < b'0' {
+        return -1;
+    }
+    if word[0] > b'9' {
+        return -1;
+    }
+    (word[0] - b'0') as i32
+}
+
+// By the word at `at`.
+fn run_from(at: usize, told: i32)
+    requires { ⌜ at ≤ 2 ⌝ }
+{
+    let words = os::arg_count();
+    let mut word = [0u8; 8];
+    let n = os::arg(at, &mut word);
+    if is_list(word, n) {
+        if words > at + 2 {
+            write_all(2, b"tokelivo: list takes one file\n");
+            return;
+        }
+        run_named(Product::Listing, at, b"", told);
+        return;
+    }
+    if is_fields(word, n) {
+        run_fields(at, words, told);
+        return;
+    }
+    write_all(2, b"tokelivo: neither list nor fields is asked for\n");
+}
+
+// By the program's words: `list FILE`, or `fields FILE NAME..`. In front of them may stand a descriptor, as 3: where
+// nothing went wrong, 0 is written there.
+pub fn run_words() {
+    let mut word = [0u8; 8];
+    let n = os::arg(1, &mut word);
+    let told = descriptor(word, n);
+    if told < 0 {
+        run_from(1, told);
+        return;
+    }
+    run_from(2, told);
+}
