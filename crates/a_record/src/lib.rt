@@ -125,7 +125,9 @@ impl ARecord {
         rest.view(line)
     }
 
-    pub fn put(self, line: &[u8], buf: &mut [u8], at: usize) -> usize
+    // The text as a piece of a larger one, from a place on: bytes that are too short cut it, and what lies outside the
+    // line is left out. `print` is the printer.
+    pub fn put_piece(self, line: &[u8], buf: &mut [u8], at: usize) -> usize
         ensures { λ r. ⌜ Wrote (now (buf .entry)) at (aBody self (partBytes (self .«unique_id») (now (line .entry))) (maybeBytes (self .«id_extension») (now (line .entry)))) (now (buf .exit)) r ⌝ }
     {
         let maker = self.manufacturer;
@@ -147,10 +149,10 @@ impl ARecord {
             Found::At(_id) => match rest.find(line) {
                 Found::Refused(no_rest) => Printed::Refused(no_rest),
                 Found::At(_rest) => {
-                    if buf.len() < self.put(line, &mut [], 0) {
+                    if buf.len() < self.put_piece(line, &mut [], 0) {
                         return Printed::Refused(Refusal::NoRoom);
                     }
-                    Printed::Written(self.put(line, buf, 0))
+                    Printed::Written(self.put_piece(line, buf, 0))
                 }
             },
         }

@@ -15,6 +15,8 @@ use Rattle.b_record.specs.declared.FixValid.{FixValid}
 use Rattle.b_record.specs.declared.FixValid.the-variants.{Valid, NavWarning}
 use Rattle.b_record.specs.declared.FixRead.{FixRead}
 use Rattle.b_record.specs.declared.FixRead.the-variants as fix
+use Rattle.b_record.specs.declared.PressureAlt.{PressureAlt}
+use Rattle.b_record.specs.declared.GpsAlt.{GpsAlt}
 use Rattle.b_record.specs.declared.Heights.{Heights}
 use Rattle.b_record.specs.declared.HeightsRead.{HeightsRead}
 use Rattle.b_record.specs.declared.HeightsRead.the-variants as heights
@@ -58,9 +60,17 @@ readFix s =
 unfoldable pub readB : List ℕ → Res BRecord
 readB s = guard (35 ≤? length s) Syntax (ascii readFix s)
 
+-- A height as text, in a width.
+abbrev pub pressureText : ℕ → PressureAlt → List ℕ
+pressureText width h = signed width (h .0)
+
+abbrev pub gpsText : ℕ → GpsAlt → List ℕ
+gpsText width h = signed width (h .0)
+
 -- A or V, the heights in width 5, and the rest.
 unfoldable pub fixText : BRecord → List ℕ → List ℕ
-fixText r rest = (fixLetter (r .«fix_valid») ∷ []) ++ (signed 5 (r .«pressure_alt» .0) ++ (signed 5 (r .«gps_alt» .0) ++ rest))
+fixText r rest =
+    (fixLetter (r .«fix_valid») ∷ []) ++ (pressureText 5 (r .«pressure_alt») ++ (gpsText 5 (r .«gps_alt») ++ rest))
 
 -- The letter, time, position, and these.
 unfoldable pub bBody : BRecord → List ℕ → List ℕ

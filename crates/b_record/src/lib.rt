@@ -6,7 +6,7 @@ ghost use Rattle.part.specs.Part.{findPart, partBytes, shown, Shows, foundRes};
 ghost use Rattle.extension.specs.Value.{findValue};
 ghost use Rattle.put.specs.Put.{Wrote};
 ghost use Rattle.print.specs.Print.{Prints};
-ghost use Rattle.b_record.specs.BRecord.{fixLetter, fixOf, readHeights, readB, fixText, bBody, bText, bBook, fixRes, heightsRes, bRes};
+ghost use Rattle.b_record.specs.BRecord.{pressureText, gpsText, fixLetter, fixOf, readHeights, readB, fixText, bBody, bText, bBook, fixRes, heightsRes, bRes};
 use coord::position::PositionRead;
 use coord::position::RawPosition;
 use datetime::Time;
@@ -61,6 +61,24 @@ enum HeightsRead {
 pub enum BRead {
     Ok(BRecord),
     Refused(Refusal),
+}
+
+// Where a pressure height comes out as a number, and nowhere else.
+impl PressureAlt {
+    pub fn put(self, buf: &mut [u8], at: usize, width: usize) -> usize
+        ensures { λ r. ⌜ Wrote (now (buf .entry)) at (pressureText width self) (now (buf .exit)) r ⌝ }
+    {
+        put_i16(buf, at, self.0, width)
+    }
+}
+
+// The same of a GPS height.
+impl GpsAlt {
+    pub fn put(self, buf: &mut [u8], at: usize, width: usize) -> usize
+        ensures { λ r. ⌜ Wrote (now (buf .entry)) at (gpsText width self) (now (buf .exit)) r ⌝ }
+    {
+        put_i16(buf, at, self.0, width)
+    }
 }
 
 impl FixValid {
@@ -183,14 +201,18 @@ impl BRecord {
         ensures { λ r. ⌜ Wrote (now (buf .entry)) at (fixText self (partBytes (self .rest) (now (line .entry)))) (now (buf .exit)) r ⌝ }
     {
         let fix_valid = self.fix_valid;
+        let pressure = self.pressure_alt;
+        let gps = self.gps_alt;
         let rest = self.rest;
-        let pressure = put_byte(buf, at, fix_valid.letter());
-        let gps = put_i16(buf, pressure, self.pressure_alt.0, 5);
-        let end = put_i16(buf, gps, self.gps_alt.0, 5);
-        put_part(buf, end, line, rest)
+        let at_pressure = put_byte(buf, at, fix_valid.letter());
+        let at_gps = pressure.put(buf, at_pressure, 5);
+        let at_rest = gps.put(buf, at_gps, 5);
+        put_part(buf, at_rest, line, rest)
     }
 
-    pub fn put(self, line: &[u8], buf: &mut [u8], at: usize) -> usize
+    // The text as a piece of a larger one, from a place on: bytes that are too short cut it, and what lies outside the
+    // line is left out. `print` is the printer.
+    pub fn put_piece(self, line: &[u8], buf: &mut [u8], at: usize) -> usize
         ensures { λ r. ⌜ Wrote (now (buf .entry)) at (bBody self (partBytes (self .rest) (now (line .entry)))) (now (buf .exit)) r ⌝ }
     {
         let timestamp = self.timestamp;
@@ -208,10 +230,10 @@ impl BRecord {
         match rest.find(line) {
             Found::Refused(no) => Printed::Refused(no),
             Found::At(_inside) => {
-                if buf.len() < self.put(line, &mut [], 0) {
+                if buf.len() < self.put_piece(line, &mut [], 0) {
                     return Printed::Refused(Refusal::NoRoom);
                 }
-                Printed::Written(self.put(line, buf, 0))
+                Printed::Written(self.put_piece(line, buf, 0))
             }
         }
     }

@@ -214,7 +214,9 @@ impl CRecordDeclaration {
         put_maybe(buf, end, line, name)
     }
 
-    pub fn put(self, line: &[u8], buf: &mut [u8], at: usize) -> usize
+    // The text as a piece of a larger one, from a place on: bytes that are too short cut it, and what lies outside the
+    // line is left out. `print` is the printer.
+    pub fn put_piece(self, line: &[u8], buf: &mut [u8], at: usize) -> usize
         ensures { λ r. ⌜ Wrote (now (buf .entry)) at (declarationBody self (maybeBytes (self .«task_name») (now (line .entry)))) (now (buf .exit)) r ⌝ }
     {
         let date = self.date;
@@ -232,10 +234,10 @@ impl CRecordDeclaration {
         match name.find(line) {
             Found::Refused(no) => Printed::Refused(no),
             Found::At(_inside) => {
-                if buf.len() < self.put(line, &mut [], 0) {
+                if buf.len() < self.put_piece(line, &mut [], 0) {
                     return Printed::Refused(Refusal::NoRoom);
                 }
-                Printed::Written(self.put(line, buf, 0))
+                Printed::Written(self.put_piece(line, buf, 0))
             }
         }
     }

@@ -5,7 +5,6 @@ use b_record::BRecord;
 use fields_text::line::put_line;
 use held::Held;
 use listing_text::listing::print_listing;
-use print::number::put_i16;
 use print::printed::Printed;
 use records::Reading;
 use records::Record;
@@ -25,20 +24,19 @@ fn say_printed(answer: Printed, text: &[u8]) {
     }
 }
 
-fn say_height(metres: i16) {
-    let mut text = [0u8; 8];
-    let n = put_i16(&mut text, 0, metres, 1);
-    say(&text, n);
-}
-
 // The record's own fields.
 fn record(line: &[u8]) {
     io::write_all(1, b"record: pressure ");
     match BRecord::parse(line) {
         BRead::Ok(fix) => {
-            say_height(fix.pressure_alt.0);
+            let pressure = fix.pressure_alt;
+            let gps = fix.gps_alt;
+            let mut text = [0u8; 8];
+            let n = pressure.put(&mut text, 0, 1);
+            say(&text, n);
             io::write_all(1, b", GPS ");
-            say_height(fix.gps_alt.0);
+            let m = gps.put(&mut text, 0, 1);
+            say(&text, m);
         }
         BRead::Refused(_) => {
             io::write_all(1, b"refused");

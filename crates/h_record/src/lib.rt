@@ -161,7 +161,9 @@ impl HRecord {
         put_part(buf, next, line, data)
     }
 
-    pub fn put(self, line: &[u8], buf: &mut [u8], at: usize) -> usize
+    // The text as a piece of a larger one, from a place on: bytes that are too short cut it, and what lies outside the
+    // line is left out. `print` is the printer.
+    pub fn put_piece(self, line: &[u8], buf: &mut [u8], at: usize) -> usize
         ensures { λ r. ⌜ Wrote (now (buf .entry)) at (hBody self (partBytes (self .mnemonic) (now (line .entry))) (maybeBytes (self .«friendly_name») (now (line .entry))) (partBytes (self .«data») (now (line .entry)))) (now (buf .exit)) r ⌝ }
     {
         let mnemonic = self.mnemonic;
@@ -185,10 +187,10 @@ impl HRecord {
                 Found::At(_name) => match data.find(line) {
                     Found::Refused(no_data) => Printed::Refused(no_data),
                     Found::At(_data) => {
-                        if buf.len() < self.put(line, &mut [], 0) {
+                        if buf.len() < self.put_piece(line, &mut [], 0) {
                             return Printed::Refused(Refusal::NoRoom);
                         }
-                        Printed::Written(self.put(line, buf, 0))
+                        Printed::Written(self.put_piece(line, buf, 0))
                     }
                 },
             },

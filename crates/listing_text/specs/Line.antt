@@ -3,7 +3,8 @@ use Prim.Native.Nat.{ℕ}
 use mathlib.Core.List.{List, [], _∷_, _++_}
 use Rattle.text.specs.Res.{Res, ok, no, pick, numberOf, _≤?_, _∧?_}
 use Rattle.text.specs.Line.{byte}
-use Rattle.text.specs.Number.{padded, signed}
+use Rattle.text.specs.Number.{padded}
+use Rattle.b_record.specs.BRecord.{pressureText, gpsText}
 use Rattle.b_record.specs.declared.BRecord.{BRecord}
 use Rattle.records.specs.Record.{acceptedAs, answerFix}
 use Rattle.records.specs.declared.Record.{Record}
@@ -33,7 +34,7 @@ headText n s m = plain n ++ answerText s m
 
 -- The pressure and GPS heights of a fix, in width 5.
 unfoldable pub fixHeights : BRecord → List ℕ
-fixHeights r = (32 ∷ []) ++ (signed 5 (r .«pressure_alt» .0) ++ ((32 ∷ []) ++ signed 5 (r .«gps_alt» .0)))
+fixHeights r = (32 ∷ []) ++ (pressureText 5 (r .«pressure_alt») ++ ((32 ∷ []) ++ gpsText 5 (r .«gps_alt»)))
 
 -- The heights of a fix; nothing where there is none.
 unfoldable pub heightsOf : MaybeFix → List ℕ

@@ -8,7 +8,6 @@ ghost use Rattle.put.specs.Put.{Wrote};
 ghost use Rattle.records.specs.Record.{readingRes};
 ghost use Rattle.listing_text.specs.Line.{letterOf, answerText, headText, fixHeights, heightsOf, listingLine};
 use b_record::BRecord;
-use print::number::put_i16;
 use print::number::put_nat;
 use put::put_byte;
 use records::MaybeFix;
@@ -53,10 +52,12 @@ pub fn put_head(number: u64, line: &[u8], reading: Reading, buf: &mut [u8], at: 
 fn put_fix(fix: BRecord, buf: &mut [u8], at: usize) -> usize
     ensures { λ r. ⌜ Wrote (now (buf .entry)) at (fixHeights fix) (now (buf .exit)) r ⌝ }
 {
-    let pressure = put_byte(buf, at, b' ');
-    let space = put_i16(buf, pressure, fix.pressure_alt.0, 5);
-    let gps = put_byte(buf, space, b' ');
-    put_i16(buf, gps, fix.gps_alt.0, 5)
+    let pressure = fix.pressure_alt;
+    let gps = fix.gps_alt;
+    let at_pressure = put_byte(buf, at, b' ');
+    let at_space = pressure.put(buf, at_pressure, 5);
+    let at_gps = put_byte(buf, at_space, b' ');
+    gps.put(buf, at_gps, 5)
 }
 
 // The heights of a fix; nothing where there is none.

@@ -1,8 +1,7 @@
 -- Fields in plain decimal, each behind the one space that parts it from the field before.
 use Prim.Native.Nat.{ℕ}
 use mathlib.Core.List.{List, [], _∷_, _++_}
-use lib.IntN.{ℤ}
-use Rattle.text.specs.Number.{padded, signed}
+use Rattle.text.specs.Number.{padded}
 use Rattle.part.specs.declared.Part.{Part}
 use Rattle.part.specs.declared.MaybePart.{MaybePart}
 use Rattle.part.specs.declared.MaybePart.the-variants as maybe
@@ -16,14 +15,20 @@ use Rattle.manufacturer.specs.declared.MaybeLetter.{MaybeLetter}
 use Rattle.manufacturer.specs.declared.MaybeLetter.the-variants as letter
 use Rattle.manufacturer.specs.declared.MaybeTriple.{MaybeTriple}
 use Rattle.manufacturer.specs.declared.MaybeTriple.the-variants as triple
+use Rattle.b_record.specs.BRecord.{pressureText, gpsText}
+use Rattle.b_record.specs.declared.PressureAlt.{PressureAlt}
+use Rattle.b_record.specs.declared.GpsAlt.{GpsAlt}
 use Rattle.c_record.specs.declared.MaybeDate.{MaybeDate}
 use Rattle.c_record.specs.declared.MaybeDate.the-variants as date
 
 unfoldable pub number : ℕ → List ℕ
 number n = (32 ∷ []) ++ padded 1 n
 
-unfoldable pub signedNumber : ℤ → List ℕ
-signedNumber z = (32 ∷ []) ++ signed 1 z
+unfoldable pub pressureShown : PressureAlt → List ℕ
+pressureShown h = (32 ∷ []) ++ pressureText 1 h
+
+unfoldable pub gpsShown : GpsAlt → List ℕ
+gpsShown h = (32 ∷ []) ++ gpsText 1 h
 
 -- A byte as it is.
 unfoldable pub byteShown : ℕ → List ℕ

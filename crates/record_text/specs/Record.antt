@@ -18,7 +18,7 @@ use Rattle.records.specs.declared.Record.{Record}
 use Rattle.records.specs.declared.Record.the-variants as rec
 use Rattle.held.specs.declared.Held.{Held}
 use Rattle.log.specs.Fold.{texts}
-use Rattle.record_text.specs.Piece.{number, signedNumber, byteShown, partShown, maybeShown, timeShown, dateShown}
+use Rattle.record_text.specs.Piece.{number, pressureShown, gpsShown, byteShown, partShown, maybeShown, timeShown, dateShown}
 use Rattle.record_text.specs.Piece.{flightShown, positionShown, letterShown, tripleShown}
 use Rattle.record_text.specs.Value.{askedFor, valueShown}
 
@@ -28,7 +28,9 @@ aShown r = letterShown (maker.letterOf (r .manufacturer)) ++ (tripleShown (maker
 
 -- A or V, pressure height, GPS height, rest.
 unfoldable pub fixShown : BRecord → List ℕ
-fixShown r = byteShown (fixLetter (r .«fix_valid»)) ++ (signedNumber (r .«pressure_alt» .0) ++ (signedNumber (r .«gps_alt» .0) ++ partShown (r .rest)))
+fixShown r =
+    byteShown (fixLetter (r .«fix_valid»))
+    ++ (pressureShown (r .«pressure_alt») ++ (gpsShown (r .«gps_alt») ++ partShown (r .rest)))
 
 -- Time, latitude and longitude, the fix, and the values of the names asked for.
 unfoldable pub bShown : BRecord → Held → List ℕ → List ℕ → List ℕ

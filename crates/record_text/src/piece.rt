@@ -1,6 +1,6 @@
 // A field of each kind, in plain decimal, behind the space that parts it from the one before.
 ghost use Rattle.put.specs.Put.{Wrote};
-ghost use Rattle.record_text.specs.Piece.{number, signedNumber, byteShown, partText, partShown, maybeShown, two};
+ghost use Rattle.record_text.specs.Piece.{number, byteShown, partText, partShown, maybeShown, two};
 ghost use Rattle.record_text.specs.Piece.{three, timeShown, dateShown, flightShown, coordShown, positionShown};
 ghost use Rattle.record_text.specs.Piece.{letterShown, tripleShown};
 use c_record::MaybeDate;
@@ -12,7 +12,6 @@ use manufacturer::MaybeLetter;
 use manufacturer::MaybeTriple;
 use part::MaybePart;
 use part::Part;
-use print::number::put_i16;
 use print::number::put_nat;
 use put::put_byte;
 
@@ -21,13 +20,6 @@ pub fn put_number(n: u64, buf: &mut [u8], at: usize) -> usize
 {
     let next = put_byte(buf, at, b' ');
     put_nat(buf, next, n, 1)
-}
-
-pub fn put_signed(z: i16, buf: &mut [u8], at: usize) -> usize
-    ensures { λ r. ⌜ Wrote (now (buf .entry)) at (signedNumber z) (now (buf .exit)) r ⌝ }
-{
-    let next = put_byte(buf, at, b' ');
-    put_i16(buf, next, z, 1)
 }
 
 pub fn put_raw(b: u8, buf: &mut [u8], at: usize) -> usize

@@ -12,7 +12,6 @@ use crate::piece::put_number;
 use crate::piece::put_part;
 use crate::piece::put_position;
 use crate::piece::put_raw;
-use crate::piece::put_signed;
 use crate::piece::put_time;
 use crate::piece::put_triple;
 use crate::value::definition_count;
@@ -48,11 +47,15 @@ fn put_fix(b: BRecord, buf: &mut [u8], at: usize) -> usize
     ensures { λ r. ⌜ Wrote (now (buf .entry)) at (fixShown b) (now (buf .exit)) r ⌝ }
 {
     let fix_valid = b.fix_valid;
+    let pressure = b.pressure_alt;
+    let gps = b.gps_alt;
     let rest = b.rest;
-    let pressure = put_raw(fix_valid.letter(), buf, at);
-    let gps = put_signed(b.pressure_alt.0, buf, pressure);
-    let end = put_signed(b.gps_alt.0, buf, gps);
-    put_part(rest, buf, end)
+    let at_space = put_raw(fix_valid.letter(), buf, at);
+    let at_pressure = put_byte(buf, at_space, b' ');
+    let at_second = pressure.put(buf, at_pressure, 1);
+    let at_gps = put_byte(buf, at_second, b' ');
+    let at_rest = gps.put(buf, at_gps, 1);
+    put_part(rest, buf, at_rest)
 }
 
 // Time, position, the fix, and the values of the names.

@@ -179,13 +179,13 @@ impl Record {
         ensures { λ r. ⌜ Wrote (now (buf .entry)) at (recordPiece self table (now (line .entry))) (now (buf .exit)) r ⌝ }
     {
         match self {
-            Record::A(a) => a.put(line, buf, at),
-            Record::B(b) => b.put(line, buf, at),
-            Record::CDeclaration(task) => task.put(line, buf, at),
-            Record::CTurnpoint(point) => point.put(line, buf, at),
-            Record::H(h) => h.put(line, buf, at),
-            Record::I => table.put(b'I', buf, at),
-            Record::J => table.put(b'J', buf, at),
+            Record::A(a) => a.put_piece(line, buf, at),
+            Record::B(b) => b.put_piece(line, buf, at),
+            Record::CDeclaration(task) => task.put_piece(line, buf, at),
+            Record::CTurnpoint(point) => point.put_piece(line, buf, at),
+            Record::H(h) => h.put_piece(line, buf, at),
+            Record::I => table.put_piece(b'I', buf, at),
+            Record::J => table.put_piece(b'J', buf, at),
             Record::NotTaken(part) => put_part(buf, at, line, part),
             Record::Unrecognised(other) => put_part(buf, at, line, other),
         }

@@ -138,7 +138,7 @@ impl Table {
     }
 
     // The text as a piece of a larger one, from a place on; bytes that are too short cut it.
-    pub fn put(self, letter: u8, buf: &mut [u8], at: usize) -> usize
+    pub fn put_piece(self, letter: u8, buf: &mut [u8], at: usize) -> usize
         ensures { λ r. ⌜ Wrote (now (buf .entry)) at (tableBody letter self) (now (buf .exit)) r ⌝ }
     {
         let count = put_byte(buf, at, letter);
@@ -152,9 +152,9 @@ impl Table {
         if 99 < self.count {
             return Printed::Refused(Refusal::BadExtension);
         }
-        if buf.len() < self.put(letter, &mut [], 0) {
+        if buf.len() < self.put_piece(letter, &mut [], 0) {
             return Printed::Refused(Refusal::NoRoom);
         }
-        Printed::Written(self.put(letter, buf, 0))
+        Printed::Written(self.put_piece(letter, buf, 0))
     }
 }

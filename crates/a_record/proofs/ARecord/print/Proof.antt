@@ -32,16 +32,16 @@ no-rest c = came foundRes (c .no-rest .given .1) (c .before .before .find2 .ensu
 
 full : tie.Need-returns
 unfolding aText partText maybeText
-full c = no-room (on _ (text-found _ (id (search needs))) (on _ (text-found _ (rest (search needs))) refl)) (c .before .before .put .ensures) (search needs)
+full c = no-room (on _ (text-found _ (id (search needs))) (on _ (text-found _ (rest (search needs))) refl)) (c .before .before .put-piece .ensures) (search needs)
 
 fits : tie.Need-returns-4
 unfolding aText partText maybeText
 fits c =
     written
     (on _ (text-found _ (id (search needs))) (on _ (text-found _ (rest (search needs))) refl))
-    (c .before .before .before .before .before .before .put .ensures)
+    (c .before .before .before .before .before .before .put-piece .ensures)
     (search needs)
-    (c .before .before .put2 .ensures)
+    (c .before .before .put-piece2 .ensures)
 
 pub print-spec : {M : Type 1} → statement M
 unfolding aText partText maybeText textOf

@@ -37,8 +37,8 @@ print-spec =
     (search needs)
     (search needs)
     (search needs)
-    (λ c. no-room (text (search needs)) (c .before .before .put .ensures) (search needs))
+    (λ c. no-room (text (search needs)) (c .before .before .put-piece .ensures) (search needs))
     (search needs)
     outside
     (search needs)
-    (λ c. written (text (search needs)) (c .before .before .before .before .before .before .put .ensures) (search needs) (c .before .before .put2 .ensures)))
+    (λ c. written (text (search needs)) (c .before .before .before .before .before .before .put-piece .ensures) (search needs) (c .before .before .put-piece2 .ensures)))

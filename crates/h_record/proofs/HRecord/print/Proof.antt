@@ -44,7 +44,7 @@ unfolding hText partText maybeText
 full c =
     no-room
     (on _ (text-found _ (mnemonic (search needs))) (on _ (text-found _ (name (search needs))) (on _ (text-found _ (rest (search needs))) refl)))
-    (c .before .before .put .ensures)
+    (c .before .before .put-piece .ensures)
     (search needs)
 
 fits : tie.Need-returns-5
@@ -52,9 +52,9 @@ unfolding hText partText maybeText
 fits c =
     written
     (on _ (text-found _ (mnemonic (search needs))) (on _ (text-found _ (name (search needs))) (on _ (text-found _ (rest (search needs))) refl)))
-    (c .before .before .before .before .before .before .put .ensures)
+    (c .before .before .before .before .before .before .put-piece .ensures)
     (search needs)
-    (c .before .before .put2 .ensures)
+    (c .before .before .put-piece2 .ensures)
 
 pub print-spec : {M : Type 1} → statement M
 unfolding hText partText maybeText textOf

@@ -1,31 +1,34 @@
 use borrow.Author.Needs.{needs}
-use mir.Syntax.{w16}
-use mir.Val.{SFits}
-use mir.Facts.{toZ-ofZ}
 use Rattle.put.proofs.Writing.{then}
-use Rattle.b_record.specs.declared.BRecord.{BRecord}
+use Rattle.record_text.specs.Piece.{pressureShown, gpsShown}
 use Rattle.record_text.specs.Record.{fixShown}
 use Rattle.record_text.proofs.record.put_fix.Statement.{statement}
 use Rattle.record_text.proofs.record.put_fix.Tie as tie
 
-abbrev fix : tie.Start → BRecord
-fix c = c .args .b
-
-pressure-fits : (c : tie.After-struct-told) → SFits w16 (fix (search needs) .«pressure_alt» .0)
-pressure-fits c = search needs
-
-gps-fits : (c : tie.After-struct-told) → SFits w16 (fix (search needs) .«gps_alt» .0)
-gps-fits c = search needs
-
 returns : tie.Need-returns
-unfolding fixShown
+unfolding fixShown pressureShown gpsShown
 returns c =
     let rest = c .before .before in
     let gps = rest .before .before .before .before in
-    let pressure = gps .before .before .before .before .before in
-    let letter = pressure .before .before .before .before .before in
-    rw (letter .before .before .letter .ensures, toZ-ofZ (pressure-fits (pressure .before)), toZ-ofZ (gps-fits (pressure .before)))
-    at (then (letter .put-raw .ensures) (then (pressure .put-signed .ensures) (then (gps .put-signed2 .ensures) (rest .put-part .ensures))))
+    let second = gps .before .before .before .before in
+    let pressure = second .before .before .before .before in
+    let first = pressure .before .before .before .before in
+    let letter = first .before .before .before .before in
+    let heights =
+    then (then (first .put-byte .ensures) (pressure .put .ensures))
+    (then (then (second .put-byte2 .ensures) (gps .put2 .ensures)) (rest .put-part .ensures)) in
+    rw (letter .before .before .letter .ensures) at (then (letter .put-raw .ensures) heights)
 
 pub put-fix-spec : {M : Type 1} → statement M
-put-fix-spec = tie.close (tie.spec (search needs) (search needs) (search needs) (search needs) (search needs) (search needs) returns)
+put-fix-spec =
+    tie.close
+    (tie.spec
+    (search needs)
+    (search needs)
+    (search needs)
+    (search needs)
+    (search needs)
+    (search needs)
+    (search needs)
+    (search needs)
+    returns)

@@ -1,8 +1,8 @@
 use borrow.Author.Needs.{needs}
 use Rattle.put.proofs.Writing.{then}
 use Rattle.h_record.specs.HRecord.{hBody}
-use Rattle.h_record.proofs.HRecord.put.Statement.{statement}
-use Rattle.h_record.proofs.HRecord.put.Tie as tie
+use Rattle.h_record.proofs.HRecord.put_piece.Statement.{statement}
+use Rattle.h_record.proofs.HRecord.put_piece.Tie as tie
 
 -- the character that is put second is the source's
 returns : tie.Need-returns
@@ -14,5 +14,5 @@ returns c =
     let h = s .before .before .before .before .before in
     then (h .put-byte .ensures) (then (rw (s .before .before .to-byte .ensures) at (s .put-char .ensures)) (then (m .put-part .ensures) (d .put-data .ensures)))
 
-pub put-spec : {M : Type 1} → statement M
-put-spec = tie.close (tie.spec (search needs) (search needs) (search needs) (search needs) (search needs) (search needs) returns)
+pub put-piece-spec : {M : Type 1} → statement M
+put-piece-spec = tie.close (tie.spec (search needs) (search needs) (search needs) (search needs) (search needs) (search needs) returns)
