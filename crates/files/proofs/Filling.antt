@@ -6,8 +6,7 @@ use native.Mathlib.Omega.{arith}
 use lib.ListN.{length, take}
 use lib.Seq.{take-take}
 use Rattle.files.specs.Input.{CameBehind, FilledBehind, Within}
-use Rattle.files.specs.declared.input.Came.{Came}
-use Rattle.files.specs.declared.input.Came.the-variants as came
+use Rattle.files.specs.declared.call.Did.{Did}
 use Rattle.files.specs.declared.input.Filled.{Filled}
 use Rattle.files.specs.declared.input.Filled.the-variants as filled
 
@@ -35,7 +34,7 @@ module _ {from at : ℕ} {b₀ b : List ℕ} (f : Filling from b₀ b at) where
   inside l = take-take from at l (f .behind)
 
   -- one call more
-  pub next : {b′ : List ℕ} {r : Came} (to : ℕ) → CameBehind at b b′ r → at ≤ to → Filling from b₀ b′ to
+  pub next : {b′ : List ℕ} {r : Did} (to : ℕ) → CameBehind at b b′ r → at ≤ to → Filling from b₀ b′ to
   next to k h = record {
     long = k .long ∙ f .long;
     front = sym (inside _) ∙ ap (take from) (k .front) ∙ inside _ ∙ f .front;

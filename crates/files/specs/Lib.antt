@@ -1,4 +1,4 @@
-pub mod Errno
+pub mod Call
 pub mod Input
 pub mod Output
 pub mod Terminal

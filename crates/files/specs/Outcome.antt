@@ -21,6 +21,15 @@ hasFailed (outcome.NoRoom n) = true
 hasFailed outcome.NotWritten = true
 hasFailed outcome.Closed = true
 
+-- What was written is true as far as it goes, and the log goes on.
+unfoldable pub cutsShort : Outcome → Bool
+cutsShort outcome.Done = false
+cutsShort outcome.NotRead = true
+cutsShort (outcome.LongLine n) = true
+cutsShort (outcome.NoRoom n) = true
+cutsShort outcome.NotWritten = false
+cutsShort outcome.Closed = false
+
 -- A text that was not written whole is never taken for written.
 unfoldable pub outcomeOf : Written → Outcome
 outcomeOf written.All = outcome.Done

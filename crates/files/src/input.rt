@@ -1,16 +1,12 @@
 // Reading a descriptor into lent bytes.
 ghost use mathlib.Core.Path.{_≡_};
+ghost use mathlib.Core.Bool.{true};
 ghost use Prim.Native.Nat.{_≤_};
 ghost use lib.ListN.{length};
-ghost use Rattle.files.specs.Input.{cameOf, CameBehind, FilledBehind};
-
-// What one call of `read` brought.
-pub enum Came {
-    Bytes(usize),
-    Ended,
-    Again,
-    Failed,
-}
+ghost use lib.IntN.{pos};
+ghost use Rattle.files.specs.Input.{CameBehind, FilledBehind, isDash};
+use crate::call::Did;
+use crate::call::did_by;
 
 // How far lent bytes were filled: up to the input's end; wholly, and no end was seen; or a read failed.
 pub enum Filled {
@@ -19,29 +15,13 @@ pub enum Filled {
     Failed,
 }
 
-// By what the call answered, and errno: an answer of 0 is the end, and no other is.
-pub fn came_of(got: isize, errno: i32) -> Came
-    ensures { λ r. ⌜ r ≡ cameOf got errno ⌝ }
-{
-    if got < 0 {
-        if errno == libc::EINTR {
-            return Came::Again;
-        }
-        return Came::Failed;
-    }
-    if got == 0 {
-        return Came::Ended;
-    }
-    Came::Bytes(got as usize)
-}
-
 // One call, behind the first bytes.
-fn read_some(fd: i32, buf: &mut [u8], at: usize) -> Came
+fn read_some(fd: i32, buf: &mut [u8], at: usize) -> Did
     requires { ⌜ at ≤ length (now buf) ⌝ }
     ensures { λ r. ⌜ CameBehind at (now (buf .entry)) (now (buf .exit)) r ⌝ }
 {
     let got = libc::read(fd, &mut buf[at..]);
-    came_of(got, os::errno())
+    did_by(got, os::errno())
 }
 
 // Reads behind the first bytes until the lent ones are full or the input ends.
@@ -56,17 +36,40 @@ pub fn read_on(fd: i32, buf: &mut [u8], from: usize) -> Filled
         }
         turns += 1;
         match read_some(fd, buf, at) {
-            Came::Bytes(n) => {
+            Did::Bytes(n) => {
                 at = at + n;
             }
-            Came::Ended => {
+            Did::Nothing => {
                 return Filled::Ended(at);
             }
-            Came::Again => {}
-            Came::Failed => {
+            Did::Again => {}
+            Did::Closed => {
+                return Filled::Failed;
+            }
+            Did::Failed => {
                 return Filled::Failed;
             }
         }
     }
     Filled::Full
+}
+
+// The name that stands for standard input.
+pub fn is_dash(file: &[u8]) -> bool
+    ensures { λ r. ⌜ r ≡ isDash (now (file .entry)) ⌝ }
+{
+    if file.len() != 1 {
+        return false;
+    }
+    file[0] == b'-'
+}
+
+// Standard input, or the file with this name; the descriptor, or -1.
+pub fn open(file: &[u8]) -> i32
+    ensures { λ r. ⌜ (isDash (now (file .entry)) ≡ true → r ≡ pos 0) ⌝ }
+{
+    if is_dash(file) {
+        return 0;
+    }
+    os::open_read(file)
 }

@@ -1,6 +1,6 @@
 // How a run ended, and a text written.
 ghost use mathlib.Core.Path.{_≡_};
-ghost use Rattle.files.specs.Outcome.{hasFailed, outcomeOf, outcomeAfter, Sent};
+ghost use Rattle.files.specs.Outcome.{hasFailed, cutsShort, outcomeOf, outcomeAfter, Sent};
 use crate::input::Filled;
 use crate::output::Written;
 use crate::output::write_all;
@@ -29,6 +29,20 @@ impl Outcome {
             Outcome::NoRoom(_) => true,
             Outcome::NotWritten => true,
             Outcome::Closed => true,
+        }
+    }
+
+    // What was written is true as far as it goes, and the log goes on.
+    pub fn cuts_short(self) -> bool
+        ensures { λ r. ⌜ r ≡ cutsShort self ⌝ }
+    {
+        match self {
+            Outcome::Done => false,
+            Outcome::NotRead => true,
+            Outcome::LongLine(_) => true,
+            Outcome::NoRoom(_) => true,
+            Outcome::NotWritten => false,
+            Outcome::Closed => false,
         }
     }
 

@@ -1,16 +1,10 @@
 // Writing a text to a descriptor.
-ghost use mathlib.Core.Path.{_≡_};
 ghost use Prim.Native.Nat.{_≤_};
 ghost use lib.ListN.{length};
-ghost use Rattle.files.specs.Output.{wentOf, WentOf, WrittenOf};
-
-// What one call of `write` took.
-pub enum Went {
-    Bytes(usize),
-    Closed,
-    Again,
-    Failed,
-}
+ghost use Rattle.files.specs.Call.{Inside};
+ghost use Rattle.files.specs.Output.{WrittenOf};
+use crate::call::Did;
+use crate::call::did_by;
 
 // All of a text was written; or the reader of the pipe is gone; or a write failed.
 pub enum Written {
@@ -19,32 +13,13 @@ pub enum Written {
     Failed,
 }
 
-// By what the call answered, and errno: a call that takes nothing has failed.
-pub fn went_of(got: isize, errno: i32) -> Went
-    ensures { λ r. ⌜ r ≡ wentOf got errno ⌝ }
-{
-    if got < 0 {
-        if errno == libc::EINTR {
-            return Went::Again;
-        }
-        if errno == libc::EPIPE {
-            return Went::Closed;
-        }
-        return Went::Failed;
-    }
-    if got == 0 {
-        return Went::Failed;
-    }
-    Went::Bytes(got as usize)
-}
-
 // One call, of the text from a place on.
-fn write_some(fd: i32, text: &[u8], at: usize) -> Went
+fn write_some(fd: i32, text: &[u8], at: usize) -> Did
     requires { ⌜ at ≤ length (now text) ⌝ }
-    ensures { λ r. ⌜ WentOf at (now (text .entry)) r ⌝ }
+    ensures { λ r. ⌜ Inside at (now (text .entry)) r ⌝ }
 {
     let got = libc::write(fd, &text[at..]);
-    went_of(got, os::errno())
+    did_by(got, os::errno())
 }
 
 // Writes all of a text, or stops where a call fails.
@@ -59,14 +34,17 @@ pub fn write_all(fd: i32, text: &[u8]) -> Written
         }
         turns += 1;
         match write_some(fd, text, at) {
-            Went::Bytes(n) => {
+            Did::Bytes(n) => {
                 at = at + n;
             }
-            Went::Closed => {
+            Did::Nothing => {
+                return Written::Failed;
+            }
+            Did::Again => {}
+            Did::Closed => {
                 return Written::Closed;
             }
-            Went::Again => {}
-            Went::Failed => {
+            Did::Failed => {
                 return Written::Failed;
             }
         }

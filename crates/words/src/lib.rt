@@ -5,6 +5,9 @@ ghost use mathlib.Core.Path.{_≡_};
 ghost use Prim.Native.Nat.{_≤_};
 ghost use lib.ListN.{length};
 use crate::names::read_names;
+use files::input::is_dash;
+use files::input::open;
+use files::outcome::Outcome;
 use files::output::write_all;
 use files::say::fail;
 use files::say::tell;
@@ -32,25 +35,33 @@ fn name_buffer() -> [u8; 12288]
     [0; 12288]
 }
 
+// Of a log that could not be read to its end what was written looks like that of a shorter one, but for this.
+fn say_short(outcome: Outcome, lines: u64) {
+    if lines == 0 {
+        return;
+    }
+    if outcome.cuts_short() {
+        write_all(1, b"! cut short\n");
+    }
+}
+
 fn run_on(product: Product, fd: i32, file: &[u8], names: &[u8], told: i32) {
     let mut win = window();
     let mut out = text_buffer();
     let ended = run(product, fd, &mut win, names, 1, &mut out);
     let outcome = ended.outcome;
+    say_short(outcome, ended.carried.walk.at.number);
     tell(told, file, outcome);
 }
 
-// Standard input, or the file with this name.
 fn run_file(product: Product, file: &[u8], names: &[u8], told: i32) {
-    if file.len() == 1 {
-        if file[0] == b'-' {
-            run_on(product, 0, b"standard input", names, told);
-            return;
-        }
-    }
-    let fd = os::open_read(file);
+    let fd = open(file);
     if fd < 0 {
         fail(file, b"cannot be opened");
+        return;
+    }
+    if is_dash(file) {
+        run_on(product, fd, b"standard input", names, told);
         return;
     }
     run_on(product, fd, file, names, told);

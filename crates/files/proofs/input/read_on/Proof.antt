@@ -63,5 +63,8 @@ read-on-spec =
     (search needs)
     (λ c. stayed (c .before .before .before .before) .long)
     (λ c. failed (stayed (c .before .before .before .before)))
+    (search needs)
+    (λ c. stayed (c .before .before .before .before) .long)
+    (λ c. failed (stayed (c .before .before .before .before)))
     (λ c. c .before .loop .inv .long)
     (λ c. full (c .before .loop .inv)))

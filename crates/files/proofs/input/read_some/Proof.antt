@@ -6,7 +6,7 @@ use lib.ListN.{length}
 use mir.Syntax.{w64}
 use mir.Facts.{toZ-ofZ}
 use borrow.Rule.Slice.PartMut.{midOf, mid-len, take-put}
-use Rattle.files.proofs.Calls.{came-room}
+use Rattle.files.proofs.Calls.{did-inside}
 use Rattle.files.proofs.input.read_some.Statement.{statement}
 use Rattle.files.proofs.input.read_some.Tie as tie
 
@@ -24,8 +24,8 @@ returns c =
       long = long c;
       front = take-put at (length b - at) b (read .read .last .1 .0) (start .pre);
       room =
-          rw (c .came-of .ensures, toZ-ofZ {w = w64} {z = read .read .result} (record { sfits = read .read .ok }))
-          (came-room at (length (midOf at (length b - at) b)) b _ _ (omega (arith, e, start .pre))
+          rw (c .did-by .ensures, toZ-ofZ {w = w64} {z = read .read .result} (record { sfits = read .read .ok }))
+          (did-inside at (length (midOf at (length b - at) b)) b _ _ (omega (arith, e, start .pre))
           (read .read .ensures));
     }
 

@@ -48,4 +48,6 @@ write-all-spec =
     (λ c. c .before .before .before .before .before .loop .inv)
     (search needs)
     (λ c. some (c .before .before .before .before))
+    (search needs)
+    (λ c. some (c .before .before .before .before))
     (λ c e. refl))
