@@ -164,7 +164,7 @@ impl Date {
     }
 
     // A date in a text that the caller knows to be ASCII: the test is not made again.
-    pub fn parse_ascii(text: &[u8]) -> DateRead
+    fn parse_ascii(text: &[u8]) -> DateRead
         ensures { λ r. ⌜ dateRes r ≡ dateIn (now (text .entry)) ⌝ }
     {
         match read_three(text) {
