@@ -1,9 +1,10 @@
 -- A lines: the recorder's maker and number.
 use Prim.Native.Nat.{ℕ, _+_}
+use Prim.Native.Char.{code}
 use mathlib.Core.List.{List, [], _∷_, _++_}
 use mathlib.Core.Bool.{Bool}
 use lib.ListN.{length}
-use Rattle.text.specs.Res.{Res, ok, no, bind, guard, pick, _≤?_, _∧?_}
+use Rattle.text.specs.Res.{Res, ok, no, bind, guard, pick, _≤?_, _=?_, _∧?_}
 use Rattle.text.specs.Line.{byte, cut}
 use Rattle.part.specs.Part.{nameFrom, partText, maybeText}
 use Rattle.text.specs.Number.{allDigits}
@@ -47,13 +48,14 @@ readTriple s =
     (asciiIn (cut 0 4 s) (ok (aOf s (tripleMaker (triple s)) 4 5)))
     (asciiIn (cut 0 7 s) (ok (aOf s (tripleMaker (triple s)) 4 3)))
 
--- Under 7 bytes 1; the letter form: column 1 ASCII (2), maker by letter, id 2-7, rest from 7; else a triple.
+-- Under 7 bytes 1; a first byte other than A 1; the letter form: column 1 ASCII (2), maker by letter, id 2-7, rest from 7; else a triple.
 unfoldable pub readA : List ℕ → Res ARecord
 readA s =
     guard (7 ≤? length s) Syntax
+    (guard (byte 0 s =? code "A") Syntax
     (pick (letterForm s)
     (guard (byte 1 s ≤? 127) NotAscii (ok (aOf s (letterMaker (byte 1 s)) 2 5)))
-    (readTriple s))
+    (readTriple s)))
 
 -- A maker prints its triple; one that has none prints nothing.
 unfoldable pub tripleText : MaybeTriple → List ℕ

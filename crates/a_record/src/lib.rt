@@ -32,7 +32,7 @@ pub enum ARead {
     Refused(Refusal),
 }
 
-// At least 9 bytes, the last five of them digits.
+// At least 9 bytes, and columns 4-9 are digits.
 fn is_long(line: &[u8]) -> bool
     ensures { λ r. ⌜ r ≡ longForm (now (line .entry)) ⌝ }
 {
@@ -97,6 +97,9 @@ impl ARecord {
         ensures { λ r. ⌜ aRes r ≡ readA (now (line .entry)) ⌝ }
     {
         if line.len() < 7 {
+            return ARead::Refused(Refusal::Syntax);
+        }
+        if line[0] != b'A' {
             return ARead::Refused(Refusal::Syntax);
         }
         if all_digits(&line[2..7]) {

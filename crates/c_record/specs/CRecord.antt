@@ -1,5 +1,6 @@
 -- C lines: a task's declaration and its turnpoints.
 use Prim.Native.Nat.{ℕ}
+use Prim.Native.Char.{code}
 use mathlib.Core.List.{List, [], _∷_, _++_}
 use mathlib.Core.Bool.{Bool, true}
 use lib.ListN.{length}
@@ -43,10 +44,11 @@ readTask s =
     bind (columns 23 25 (readInt 127) s) (λ count.
     ok (record { id = id; count = count })))
 
--- 25 bytes (1), those ASCII (2), date 1-7, time 7-13, flight date 13-19, task, count, name; an empty name is none.
+-- 25 bytes (1), the first C (1), those ASCII (2), date 1-7, time 7-13, flight date 13-19, task, count, name; an empty name is none.
 unfoldable pub readDeclaration : List ℕ → Res CRecordDeclaration
 readDeclaration s =
     guard (25 ≤? length s) Syntax
+    (guard (byte 0 s =? code "C") Syntax
     (asciiIn (cut 0 25 s)
     (bind (columns 1 7 readDate s) (λ date.
     bind (columns 7 13 readTime s) (λ time.
@@ -59,7 +61,7 @@ readDeclaration s =
       «task_id» = task .id;
       «turnpoint_count» = task .count;
       «task_name» = nameFrom 25 s;
-    })))))))
+    }))))))))
 
 unfoldable pub flightText : MaybeDate → List ℕ
 flightText Missing = 48 ∷ 48 ∷ 48 ∷ 48 ∷ 48 ∷ 48 ∷ []
@@ -87,13 +89,14 @@ declarationBook r = dateBook (r .date) ∧? timeBook (r .time) ∧? flightBook (
 
 -- ---- turnpoints
 
--- 18 bytes (1), those ASCII (2), position 1-18, name; an empty name is none.
+-- 18 bytes (1), the first C (1), those ASCII (2), position 1-18, name; an empty name is none.
 unfoldable pub readTurnpoint : List ℕ → Res CRecordTurnpoint
 readTurnpoint s =
     guard (18 ≤? length s) Syntax
+    (guard (byte 0 s =? code "C") Syntax
     (asciiIn (cut 0 18 s)
     (bind (columns 1 18 readPosition s) (λ pos.
-    ok (record { position = pos; «turnpoint_name» = nameFrom 18 s }))))
+    ok (record { position = pos; «turnpoint_name» = nameFrom 18 s })))))
 
 -- The letter, the position, the name.
 unfoldable pub turnpointBody : CRecordTurnpoint → List ℕ → List ℕ

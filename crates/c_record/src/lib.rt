@@ -152,6 +152,9 @@ impl CRecordDeclaration {
         if line.len() < 25 {
             return DeclarationRead::Refused(Refusal::Syntax);
         }
+        if line[0] != b'C' {
+            return DeclarationRead::Refused(Refusal::Syntax);
+        }
         if !is_ascii(&line[0..25]) {
             return DeclarationRead::Refused(Refusal::NotAscii);
         }

@@ -23,6 +23,9 @@ impl CRecordTurnpoint {
         if line.len() < 18 {
             return TurnpointRead::Refused(Refusal::Syntax);
         }
+        if line[0] != b'C' {
+            return TurnpointRead::Refused(Refusal::Syntax);
+        }
         if !is_ascii(&line[0..18]) {
             return TurnpointRead::Refused(Refusal::NotAscii);
         }

@@ -1,5 +1,6 @@
 -- H lines: headers.
 use Prim.Native.Nat.{ℕ, suc, _+_, _-_, _/_, _%_}
+use Prim.Native.Char.{code}
 use mathlib.Core.List.{List, [], _∷_, _++_}
 use lib.ListN.{length, drop}
 use Rattle.text.specs.Res.{Res, ok, no, bind, guard, pick, _≤?_, _=?_}
@@ -42,12 +43,13 @@ named s c =
     (record { «data_source» = sourceOf (byte 1 s); mnemonic = record { start = 2; len = 3 }; «friendly_name» = maybe.Missing; «data» = restFrom 5 s })
     (record { «data_source» = sourceOf (byte 1 s); mnemonic = record { start = 2; len = 3 }; «friendly_name» = maybe.At (record { start = 5; len = c - 5 }); «data» = restFrom (c + 1) s })
 
--- Under 6 bytes 1; 0-5 ASCII (2); source, mnemonic 2-5, name and data.
+-- Under 6 bytes 1; a first byte other than H 1; 0-5 ASCII (2); source, mnemonic 2-5, name and data.
 unfoldable pub readH : List ℕ → Res HRecord
 readH s =
     guard (6 ≤? length s) Syntax
+    (guard (byte 0 s =? code "H") Syntax
     (asciiIn (cut 0 5 s)
-    (ok (named s (5 + colonIn (drop 5 s)))))
+    (ok (named s (5 + colonIn (drop 5 s))))))
 
 -- A byte, or from 128 on its two bytes in UTF-8.
 unfoldable pub charText : ℕ → List ℕ

@@ -104,6 +104,9 @@ impl HRecord {
         if line.len() < 6 {
             return HRead::Refused(Refusal::Syntax);
         }
+        if line[0] != b'H' {
+            return HRead::Refused(Refusal::Syntax);
+        }
         if !is_ascii(&line[0..5]) {
             return HRead::Refused(Refusal::NotAscii);
         }

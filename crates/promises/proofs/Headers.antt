@@ -73,7 +73,7 @@ pub h-again : (s : List ℕ) → byte 0 s ≡ 72 → Finds (readH s) (λ r. Agai
 unfolding readH asciiIn
 h-again s b =
     finds-guard _ (λ long. let l : 6 ≤ length s = is≤ long in
-    finds-guard _ (λ ascii.
+    finds-guard _ (λ _. finds-guard _ (λ ascii.
     let n = colonIn (drop 5 s) in
     finds-ok (always (named-same s b l ascii n (colon-inside 5 s (omega arith))
-    (λ h. sym (colon-at (drop 5 s) (omega (arith, length-drop 5 s))) ∙ getD-drop 5 s n 0)))))
+    (λ h. sym (colon-at (drop 5 s) (omega (arith, length-drop 5 s))) ∙ getD-drop 5 s n 0))))))

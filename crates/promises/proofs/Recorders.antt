@@ -52,8 +52,8 @@ module _ (s : List ℕ) (a : byte 0 s ≡ 65) where
   unfolding readA readTriple longForm asciiIn
   a-again =
       finds-guard _ (λ long. let l : 7 ≤ length s = is≤ long in
-      finds-pick
+      finds-guard _ (λ _. finds-pick
       (λ e. finds-guard _ (λ _. finds-ok (letter-again l e)))
       (λ e. finds-pick
       (λ k. finds-guard _ (λ _. finds-ok (rw e (always (triple-same 5 (is≤ (both k .0)))))))
-      (λ _. finds-guard _ (λ _. finds-ok (rw e (always (triple-same 3 l)))))))
+      (λ _. finds-guard _ (λ _. finds-ok (rw e (always (triple-same 3 l))))))))

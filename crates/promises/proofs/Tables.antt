@@ -61,9 +61,9 @@ pub table-again : (s : List ℕ) (b : ℕ) → byte 0 s ≡ b →
 unfolding readTable ascii asciiIn readBody tableOdd
 table-again s b h =
     finds-guard _ (λ long. let l : 3 ≤ length s = is≤ long in
-    finds-guard _ (λ _.
+    finds-guard _ (λ _. finds-guard _ (λ _.
     finds-bind (count-most s l) (λ n c.
     finds-guard _ (λ exact. let x : length s ≡ 3 + 7 * n = is= exact in
     let k : (length s - 3) / 7 ≡ n = omega arith in
     finds-rest _ s 3 (finds-map (defs-copy n (drop 3 s) (omega (arith, length-drop 3 s))) (λ ds d.
-    rw k (again (table-text b ds (omega (arith, d .1, c .1))) (letter s 0 b (omega arith) (sym h) (next s 1 2 (rw (← d .1) at (c .0)) (d .0))))))))))
+    rw k (again (table-text b ds (omega (arith, d .1, c .1))) (letter s 0 b (omega arith) (sym h) (next s 1 2 (rw (← d .1) at (c .0)) (d .0)))))))))))

@@ -55,13 +55,13 @@ pub declaration-again : (s : List ℕ) → byte 0 s ≡ 67 →
 unfolding readDeclaration asciiIn declarationOdd declarationText declarationBody taskText
 declaration-again s b =
     finds-guard _ (λ long. let l : 25 ≤ length s = is≤ long in
-    finds-guard _ (λ _.
+    finds-guard _ (λ _. finds-guard _ (λ _.
     finds-bind (finds-columns _ s 1 7 (date-copy (cut 1 7 s))) (λ date cd.
     finds-bind (finds-columns _ s 7 13 (time-copy (cut 7 13 s))) (λ time ct.
     finds-bind (finds-columns _ s 13 19 (flight-copy (cut 13 19 s) (cut-length 13 6 s (omega arith)))) (λ flight cf.
     finds-bind (task-copy s l) (λ task ck.
     finds-ok (again (on _ (name-text 25 s l) refl)
-    (letter s 0 67 (omega arith) (sym b) (next s 1 6 cd (next s 7 6 ct (next s 13 6 cf ck)))))))))))
+    (letter s 0 67 (omega arith) (sym b) (next s 1 6 cd (next s 7 6 ct (next s 13 6 cf ck))))))))))))
 
 -- ---- turnpoints
 
@@ -70,6 +70,6 @@ pub turnpoint-again : (s : List ℕ) → byte 0 s ≡ 67 →
 unfolding readTurnpoint asciiIn turnpointOdd turnpointText turnpointBody
 turnpoint-again s b =
     finds-guard _ (λ long. let l : 18 ≤ length s = is≤ long in
-    finds-guard _ (λ _.
+    finds-guard _ (λ _. finds-guard _ (λ _.
     finds-bind (finds-columns _ s 1 18 (position-copy (cut 1 18 s))) (λ pos cp.
-    finds-ok (again (on _ (name-text 18 s l) refl) (letter s 0 67 (omega arith) (sym b) (rest s 1 17 cp))))))
+    finds-ok (again (on _ (name-text 18 s l) refl) (letter s 0 67 (omega arith) (sym b) (rest s 1 17 cp)))))))

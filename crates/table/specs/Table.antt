@@ -1,11 +1,13 @@
 -- The body of I and J lines: a table of up to 99 definitions.
 use Prim.Native.Nat.{ℕ, zero, suc, _+_, _-_, _*_}
+use Prim.Native.Char.{code}
+use mathlib.Core.Bool.{Bool}
 use mathlib.Core.List.{List, [], _∷_, _++_}
 use lib.ListN.{length, take, replicate}
-use Rattle.text.specs.Res.{Res, ok, no, bind, guard, _≤?_, _=?_}
+use Rattle.text.specs.Res.{Res, ok, no, bind, guard, _≤?_, _=?_, _∨?_}
 use Rattle.text.specs.Number.{readNat, padded}
 use Rattle.text.specs.declared.refusal.Refusal.the-variants.{Syntax, BadExtension}
-use Rattle.text.specs.Line.{columns}
+use Rattle.text.specs.Line.{byte, columns}
 use Rattle.field.specs.Field.{ascii}
 use Rattle.extension.specs.Extension.{readExtension, extensionText}
 use Rattle.extension.specs.declared.Extension.{Extension}
@@ -36,9 +38,13 @@ readBody s =
     guard (length s =? 3 + 7 * count) Syntax
     (columns 3 (length s) (readDefs count) s))
 
--- Under 3 bytes 1; ASCII (2); then the body.
+-- I or J.
+unfoldable pub isTable : ℕ → Bool
+isTable b = (b =? code "I") ∨? (b =? code "J")
+
+-- Under 3 bytes 1; a first byte other than I and J 1; ASCII (2); then the body.
 unfoldable pub readTable : List ℕ → Res (List Extension)
-readTable s = guard (3 ≤? length s) Syntax (ascii readBody s)
+readTable s = guard (3 ≤? length s) Syntax (guard (isTable (byte 0 s)) Syntax (ascii readBody s))
 
 -- The definitions that a table holds.
 unfoldable pub defsOf : Table → List Extension

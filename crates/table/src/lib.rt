@@ -7,7 +7,7 @@ ghost use lib.ListN.{length};
 ghost use Rattle.text.specs.Res.{no};
 ghost use Rattle.put.specs.Put.{Wrote};
 ghost use Rattle.print.specs.Print.{Prints};
-ghost use Rattle.table.specs.Table.{tableOf, readDefs, readTable, defsOf, defsText, tableBody, tableText};
+ghost use Rattle.table.specs.Table.{tableOf, readDefs, isTable, readTable, defsOf, defsText, tableBody, tableText};
 ghost use Rattle.table.specs.Table.{tableRead};
 use extension::Extension;
 use extension::ExtensionRead;
@@ -41,6 +41,16 @@ fn at_most_99(n: u8) -> usize
     ensures { λ r. ⌜ r ≡ min n 99 ⌝ }
 {
     if n < 99 { n as usize } else { 99 }
+}
+
+// I or J.
+fn is_table(letter: u8) -> bool
+    ensures { λ r. ⌜ r ≡ isTable letter ⌝ }
+{
+    if letter == b'I' {
+        return true;
+    }
+    letter == b'J'
 }
 
 impl Table {
@@ -101,11 +111,14 @@ impl Table {
         }
     }
 
-    // The definitions of an I or a J line: its letter is not looked at.
+    // The definitions of an I or a J line.
     pub fn parse(line: &[u8]) -> TableRead
         ensures { λ r. ⌜ r ≡ tableRead (readTable (now (line .entry))) ⌝ }
     {
         if line.len() < 3 {
+            return Table::refused(Refusal::Syntax);
+        }
+        if !is_table(line[0]) {
             return Table::refused(Refusal::Syntax);
         }
         if !is_ascii(line) {

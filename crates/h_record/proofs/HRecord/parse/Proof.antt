@@ -21,7 +21,7 @@ line b = now (b .args .line)
 made : (c : tie.After-colon) {r : HRecord} → r ≡ named (line (search needs)) (c .colon .result) →
     ok r ≡ readH (line (search needs))
 unfolding readH asciiIn cut
-made c h = pass _ (yes≤ (search needs)) (pass _ (search (so-true)) (rw (h, c .colon .ensures)))
+made c h = pass _ (yes≤ (search needs)) (pass _ (yes= (search needs)) (pass _ (search (so-true)) (rw (h, c .colon .ensures))))
 
 add-from-column : tie.Need-add-from-column
 add-from-column c = record { fits = omega (arith, colon-inside 5 (line (search needs)) (search needs)) }
@@ -33,10 +33,12 @@ parse-spec =
     (tie.spec
     (λ c. stop _ (no≤ (search needs)))
     (search needs)
+    (λ c. pass _ (yes≤ (search needs)) (stop _ (no= (search needs))))
     (search needs)
     (search needs)
     (search needs)
-    (λ c. pass _ (yes≤ (search needs)) (stop _ (search (so-false))))
+    (search needs)
+    (λ c. pass _ (yes≤ (search needs)) (pass _ (yes= (search needs)) (stop _ (search (so-false)))))
     (search needs)
     (search needs)
     (search needs)

@@ -9,9 +9,9 @@ use denote.Ref.{now}
 use Rattle.text.specs.Res.{ok, no}
 use Rattle.text.specs.Number.{readNat, u8Res}
 use Rattle.text.proofs.Steps.{came, on, off, pass, stop, yes≤, no≤, yes=, no=, so-true, so-false}
-use Rattle.text.specs.Line.{cut, columns}
+use Rattle.text.specs.Line.{byte, cut, columns}
 use Rattle.field.specs.Field.{isAscii, asciiIn, ascii}
-use Rattle.table.specs.Table.{readBody, readTable, tableRead}
+use Rattle.table.specs.Table.{isTable, readBody, readTable, tableRead}
 use Rattle.table.proofs.Counts.{two-characters}
 use Rattle.table.proofs.Table.parse.Statement.{statement}
 use Rattle.table.proofs.Table.parse.Tie as tie
@@ -22,8 +22,11 @@ line b = now (b .args .line)
 long : (c : tie.Else1) → 3 ≤ length (line (search needs))
 long c = c .if1 .left
 
-plain : (c : tie.Else2) → isAscii (line (search needs)) ≡ true
-plain c = search (so-true)
+lettered : (c : tie.Else2) → isTable (byte 0 (line (search needs))) ≡ true
+lettered c = so-true (c .before .is-table .ensures) (c .if2 .left)
+
+plain : (c : tie.Else3) → isAscii (line (search needs)) ≡ true
+plain c = so-true (c .before .is-ascii .ensures) (c .if3 .left)
 
 count : (c : tie.After-count) → ok (c .count .given .0 .0) ≡ columns 1 3 (readNat 255) (line (search needs))
 unfolding columns cut
@@ -49,7 +52,11 @@ parse-spec =
     (λ c. c .refused .ensures ∙ ap tableRead (stop _ (no≤ (search needs))))
     (search needs)
     (search needs)
-    (λ c. c .refused2 .ensures ∙ ap tableRead (pass _ (yes≤ (long (search needs))) (stop _ (search (so-false)))))
+    (search needs)
+    (λ c. c .refused2 .ensures ∙ ap tableRead (pass _ (yes≤ (long (search needs))) (stop _ (so-false (c .before .before .is-table .ensures) (c .before .if2 .taken)))))
+    (search needs)
+    (search needs)
+    (λ c. c .refused3 .ensures ∙ ap tableRead (pass _ (yes≤ (long (search needs))) (pass _ (lettered (search needs)) (stop _ (so-false (c .before .before .is-ascii .ensures) (c .before .if3 .taken))))))
     (search needs)
     (search needs)
     (search needs)
@@ -59,12 +66,12 @@ parse-spec =
     (search needs)
     (search needs)
     (search needs)
-    (λ c. c .refused3 .ensures ∙ ap tableRead (pass _ (yes≤ (long (search needs))) (pass _ (plain (search needs)) (on _ (count (search needs)) (stop _ (no= (search needs)))))))
+    (λ c. c .refused4 .ensures ∙ ap tableRead (pass _ (yes≤ (long (search needs))) (pass _ (lettered (search needs)) (pass _ (plain (search needs)) (on _ (count (search needs)) (stop _ (no= (search needs))))))))
     (search needs)
     (search needs)
     (search needs)
     fits
     (search needs)
     (search needs)
-    (λ c. c .parse-defs .ensures ∙ ap tableRead (pass _ (yes≤ (long (search needs))) (pass _ (plain (search needs)) (on _ (count (search needs)) (pass _ (yes= (search needs)) refl)))))
-    (λ c. c .refused4 .ensures ∙ ap tableRead (pass _ (yes≤ (long (search needs))) (pass _ (plain (search needs)) (off _ (no-count (search needs)))))))
+    (λ c. c .parse-defs .ensures ∙ ap tableRead (pass _ (yes≤ (long (search needs))) (pass _ (lettered (search needs)) (pass _ (plain (search needs)) (on _ (count (search needs)) (pass _ (yes= (search needs)) refl))))))
+    (λ c. c .refused5 .ensures ∙ ap tableRead (pass _ (yes≤ (long (search needs))) (pass _ (lettered (search needs)) (pass _ (plain (search needs)) (off _ (no-count (search needs))))))))
