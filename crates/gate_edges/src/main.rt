@@ -1,6 +1,7 @@
 // The readings of document 01 that are run and not proved, each with its answer number. What this writes is held to
 // ../stdout.
 mod fields;
+mod foreign;
 mod lines;
 mod numbers;
 mod say;
@@ -17,6 +18,7 @@ fn main() {
     fields::made();
     fields::extensions();
     lines::first();
+    foreign::first_bytes();
     lines::fixes();
     lines::tables();
     lines::tasks();
