@@ -24,8 +24,6 @@ use Rattle.c_record.specs.CRecord.{
   turnpointBook,
 }
 use Rattle.h_record.specs.HRecord.{readH, hBody, hText}
-use Rattle.records.specs.declared.Kind.{Kind}
-use Rattle.records.specs.declared.Kind.the-variants as kind
 use Rattle.records.specs.declared.Record.{Record}
 use Rattle.records.specs.declared.Record.the-variants as rec
 use Rattle.records.specs.declared.MaybeFix.{MaybeFix}
@@ -37,17 +35,28 @@ use Rattle.records.specs.declared.Reading.the-variants as reading
 unfoldable pub isNotTaken : ℕ → Bool
 isNotTaken b = (b =? 68) ∨? (b =? 69) ∨? (b =? 70) ∨? (b =? 71) ∨? (b =? 75) ∨? (b =? 76)
 
+-- The kinds of line.
+pub data Kind : Type 0 where
+  A : Kind
+  B : Kind
+  C : Kind
+  H : Kind
+  I : Kind
+  J : Kind
+  NotTaken : Kind
+  Other : Kind
+
 -- The kind of line that a first byte chooses.
 unfoldable pub kindOf : ℕ → Kind
 kindOf b =
-    pick (b =? 65) kind.A
-    (pick (b =? 66) kind.B
-    (pick (b =? 67) kind.C
-    (pick (b =? 72) kind.H
-    (pick (b =? 73) kind.I
-    (pick (b =? 74) kind.J
-    (pick (isNotTaken b) kind.NotTaken
-    kind.Other))))))
+    pick (b =? 65) A
+    (pick (b =? 66) B
+    (pick (b =? 67) C
+    (pick (b =? 72) H
+    (pick (b =? 73) I
+    (pick (b =? 74) J
+    (pick (isNotTaken b) NotTaken
+    Other))))))
 
 -- The whole line.
 unfoldable pub whole : List ℕ → Part
@@ -63,14 +72,14 @@ readC s =
 
 -- A line of a kind.
 unfoldable pub readKind : Kind → List ℕ → Res Record
-readKind kind.A s = bind (readA s) (λ r. ok (rec.A r))
-readKind kind.B s = bind (readB s) (λ r. ok (rec.B r))
-readKind kind.C s = readC s
-readKind kind.H s = bind (readH s) (λ r. ok (rec.H r))
-readKind kind.I s = bind (readTable s) (λ ds. ok rec.I)
-readKind kind.J s = bind (readTable s) (λ ds. ok rec.J)
-readKind kind.NotTaken s = ok (rec.NotTaken (whole s))
-readKind kind.Other s = ok (rec.Unrecognised (whole s))
+readKind A s = bind (readA s) (λ r. ok (rec.A r))
+readKind B s = bind (readB s) (λ r. ok (rec.B r))
+readKind C s = readC s
+readKind H s = bind (readH s) (λ r. ok (rec.H r))
+readKind I s = bind (readTable s) (λ ds. ok rec.I)
+readKind J s = bind (readTable s) (λ ds. ok rec.J)
+readKind NotTaken s = ok (rec.NotTaken (whole s))
+readKind Other s = ok (rec.Unrecognised (whole s))
 
 unfoldable pub readLine : List ℕ → Res Record
 readLine s = guard (1 ≤? length s) Syntax (readKind (kindOf (byte 0 s)) s)

@@ -5,7 +5,7 @@ ghost use Rattle.put.specs.Put.{Wrote};
 ghost use Rattle.print.specs.Print.{Prints};
 ghost use Rattle.table.specs.Table.{readTable};
 ghost use Rattle.b_record.specs.BRecord.{readB};
-ghost use Rattle.records.specs.Record.{kindOf, readC, readLine, recordText, recordPiece, recordTable, recordBook};
+ghost use Rattle.records.specs.Record.{whole, readC, readLine, recordText, recordPiece, recordTable, recordBook};
 ghost use Rattle.records.specs.Record.{recordFix, acceptedAs, answerOf, answerFix, readingRes};
 use a_record::ARead;
 use a_record::ARecord;
@@ -52,34 +52,12 @@ pub enum MaybeFix {
     Fix(BRecord),
 }
 
-enum Kind {
-    A,
-    B,
-    C,
-    H,
-    I,
-    J,
-    NotTaken,
-    Other,
-}
-
-fn kind_of(letter: u8) -> Kind
-    ensures { λ r. ⌜ r ≡ kindOf letter ⌝ }
+fn whole_line(line: &[u8]) -> Part
+    ensures { λ r. ⌜ r ≡ whole (now (line .entry)) ⌝ }
 {
-    match letter {
-        b'A' => Kind::A,
-        b'B' => Kind::B,
-        b'C' => Kind::C,
-        b'H' => Kind::H,
-        b'I' => Kind::I,
-        b'J' => Kind::J,
-        b'D' => Kind::NotTaken,
-        b'E' => Kind::NotTaken,
-        b'F' => Kind::NotTaken,
-        b'G' => Kind::NotTaken,
-        b'K' => Kind::NotTaken,
-        b'L' => Kind::NotTaken,
-        _ => Kind::Other,
+    Part {
+        start: 0,
+        len: line.len(),
     }
 }
 
@@ -132,27 +110,26 @@ impl Record {
         if line.len() == 0 {
             return Reading::Refused(Refusal::Syntax);
         }
-        match kind_of(line[0]) {
-            Kind::A => match ARecord::parse(line) {
+        match line[0] {
+            b'A' => match ARecord::parse(line) {
                 ARead::Ok(a) => Reading::Accepted(Record::A(a)),
                 ARead::Refused(no_a) => Reading::Refused(no_a),
             },
-            Kind::B => parse_b(line),
-            Kind::C => parse_c(line),
-            Kind::H => match HRecord::parse(line) {
+            b'B' => parse_b(line),
+            b'C' => parse_c(line),
+            b'H' => match HRecord::parse(line) {
                 HRead::Ok(h) => Reading::Accepted(Record::H(h)),
                 HRead::Refused(no_h) => Reading::Refused(no_h),
             },
-            Kind::I => parse_table(line, Record::I),
-            Kind::J => parse_table(line, Record::J),
-            Kind::NotTaken => Reading::Accepted(Record::NotTaken(Part {
-                start: 0,
-                len: line.len(),
-            })),
-            Kind::Other => Reading::Accepted(Record::Unrecognised(Part {
-                start: 0,
-                len: line.len(),
-            })),
+            b'I' => parse_table(line, Record::I),
+            b'J' => parse_table(line, Record::J),
+            b'D' => Reading::Accepted(Record::NotTaken(whole_line(line))),
+            b'E' => Reading::Accepted(Record::NotTaken(whole_line(line))),
+            b'F' => Reading::Accepted(Record::NotTaken(whole_line(line))),
+            b'G' => Reading::Accepted(Record::NotTaken(whole_line(line))),
+            b'K' => Reading::Accepted(Record::NotTaken(whole_line(line))),
+            b'L' => Reading::Accepted(Record::NotTaken(whole_line(line))),
+            _ => Reading::Accepted(Record::Unrecognised(whole_line(line))),
         }
     }
 
