@@ -42,7 +42,7 @@ fn is_long(line: &[u8]) -> bool
     all_digits(&line[4..9])
 }
 
-fn put_triple(m: Manufacturer, buf: &mut [u8], at: usize) -> usize
+fn put_triple(buf: &mut [u8], at: usize, m: Manufacturer) -> usize
     ensures { λ r. ⌜ Wrote (now (buf .entry)) at (tripleText (tripleOf m)) (now (buf .exit)) r ⌝ }
 {
     match m.to_triple_char() {
@@ -130,16 +130,16 @@ impl ARecord {
 
     // The text as a piece of a larger one, from a place on: bytes that are too short cut it, and what lies outside the
     // line is left out. `print` is the printer.
-    pub fn put_piece(self, line: &[u8], buf: &mut [u8], at: usize) -> usize
+    pub fn put_piece(self, buf: &mut [u8], at: usize, line: &[u8]) -> usize
         ensures { λ r. ⌜ Wrote (now (buf .entry)) at (aBody self (partBytes (self .«unique_id») (now (line .entry))) (maybeBytes (self .«id_extension») (now (line .entry)))) (now (buf .exit)) r ⌝ }
     {
         let maker = self.manufacturer;
         let id = self.unique_id;
         let rest = self.id_extension;
-        let triple = put_byte(buf, at, b'A');
-        let number = put_triple(maker, buf, triple);
-        let end = put_part(buf, number, line, id);
-        put_maybe(buf, end, line, rest)
+        let at_triple = put_byte(buf, at, b'A');
+        let at_number = put_triple(buf, at_triple, maker);
+        let at_rest = put_part(buf, at_number, line, id);
+        put_maybe(buf, at_rest, line, rest)
     }
 
     pub fn print(self, line: &[u8], buf: &mut [u8]) -> Printed
@@ -152,10 +152,10 @@ impl ARecord {
             Found::At(_id) => match rest.find(line) {
                 Found::Refused(no_rest) => Printed::Refused(no_rest),
                 Found::At(_rest) => {
-                    if buf.len() < self.put_piece(line, &mut [], 0) {
+                    if buf.len() < self.put_piece(&mut [], 0, line) {
                         return Printed::Refused(Refusal::NoRoom);
                     }
-                    Printed::Written(self.put_piece(line, buf, 0))
+                    Printed::Written(self.put_piece(buf, 0, line))
                 }
             },
         }

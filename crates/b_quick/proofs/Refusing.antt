@@ -16,7 +16,7 @@ use Rattle.datetime.specs.Time.{readTime}
 use Rattle.coord.specs.Coord.{readCoord, latitude, longitude, readBoth, readPosition}
 use Rattle.coord.specs.declared.Compass.{Compass}
 use Rattle.coord.specs.declared.Compass.the-variants.{North, South, East, West}
-use Rattle.b_record.specs.BRecord.{fixOf, readHeights, readFix}
+use Rattle.b_record.specs.BRecord.{validOf, readHeights, readFix}
 use Rattle.b_record.specs.declared.BRecord.{BRecord}
 use Rattle.b_quick.specs.Quick.{fixRead}
 use Rattle.b_quick.specs.declared.Quick.the-variants.{Fix, No}
@@ -108,7 +108,7 @@ module _ (s : List ℕ) where
   pub no-longitude : Refuses (longitudeOf s) → Refuses (readFix s)
   no-longitude r = no-position (rw (both-at s) (refuses-later _ (λ _. refuses-first _ r)))
 
-  pub no-letter : Refuses (fixOf (byte 24 s)) → Refuses (readFix s)
+  pub no-letter : Refuses (validOf (byte 24 s)) → Refuses (readFix s)
   unfolding readFix
   no-letter r = refuses-later _ (λ _. refuses-later _ (λ _. refuses-first _ r))
 

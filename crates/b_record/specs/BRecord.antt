@@ -13,8 +13,8 @@ use Rattle.datetime.specs.Time.{readTime, timeText, timeBook}
 use Rattle.coord.specs.Coord.{readPosition, positionText, positionBook}
 use Rattle.b_record.specs.declared.FixValid.{FixValid}
 use Rattle.b_record.specs.declared.FixValid.the-variants.{Valid, NavWarning}
-use Rattle.b_record.specs.declared.FixRead.{FixRead}
-use Rattle.b_record.specs.declared.FixRead.the-variants as fix
+use Rattle.b_record.specs.declared.ValidRead.{ValidRead}
+use Rattle.b_record.specs.declared.ValidRead.the-variants as fix
 use Rattle.b_record.specs.declared.PressureAlt.{PressureAlt}
 use Rattle.b_record.specs.declared.GpsAlt.{GpsAlt}
 use Rattle.b_record.specs.declared.Heights.{Heights}
@@ -25,13 +25,13 @@ use Rattle.b_record.specs.declared.BRead.{BRead}
 use Rattle.b_record.specs.declared.BRead.the-variants as b
 
 -- A, V.
-unfoldable pub fixLetter : FixValid → ℕ
-fixLetter Valid = 65
-fixLetter NavWarning = 86
+unfoldable pub validLetter : FixValid → ℕ
+validLetter Valid = 65
+validLetter NavWarning = 86
 
 -- A or V by its letter; 1 else.
-unfoldable pub fixOf : ℕ → Res FixValid
-fixOf l = pick (l =? fixLetter Valid) (ok Valid) (pick (l =? fixLetter NavWarning) (ok NavWarning) (no Syntax))
+unfoldable pub validOf : ℕ → Res FixValid
+validOf l = pick (l =? validLetter Valid) (ok Valid) (pick (l =? validLetter NavWarning) (ok NavWarning) (no Syntax))
 
 -- Pressure height 25-30, GPS height 30-35.
 unfoldable pub readHeights : List ℕ → Res Heights
@@ -45,7 +45,7 @@ unfoldable pub readFix : List ℕ → Res BRecord
 readFix s =
     bind (columns 1 7 readTime s) (λ time.
     bind (columns 7 24 readPosition s) (λ pos.
-    bind (fixOf (byte 24 s)) (λ valid.
+    bind (validOf (byte 24 s)) (λ valid.
     bind (readHeights s) (λ heights.
     ok (record {
       timestamp = time;
@@ -68,13 +68,13 @@ abbrev pub gpsText : ℕ → GpsAlt → List ℕ
 gpsText width h = signed width (h .0)
 
 -- A or V, the heights in width 5, and the rest.
-unfoldable pub fixText : BRecord → List ℕ → List ℕ
-fixText r rest =
-    (fixLetter (r .«fix_valid») ∷ []) ++ (pressureText 5 (r .«pressure_alt») ++ (gpsText 5 (r .«gps_alt») ++ rest))
+unfoldable pub tailText : BRecord → List ℕ → List ℕ
+tailText r rest =
+    (validLetter (r .«fix_valid») ∷ []) ++ (pressureText 5 (r .«pressure_alt») ++ (gpsText 5 (r .«gps_alt») ++ rest))
 
 -- The letter, time, position, and these.
 unfoldable pub bBody : BRecord → List ℕ → List ℕ
-bBody r rest = (66 ∷ []) ++ (timeText (r .timestamp) ++ (positionText (r .pos) ++ fixText r rest))
+bBody r rest = (66 ∷ []) ++ (timeText (r .timestamp) ++ (positionText (r .pos) ++ tailText r rest))
 
 -- The text of a record beside its line; 9 where the rest lies outside.
 unfoldable pub bText : BRecord → List ℕ → Res (List ℕ)
@@ -86,9 +86,9 @@ bBook r = timeBook (r .timestamp) ∧? positionBook (r .pos)
 
 -- ---- the answers of the code
 
-abbrev pub fixRes : FixRead → Res FixValid
-fixRes (fix.Ok v) = ok v
-fixRes (fix.Refused n) = no n
+abbrev pub validRes : ValidRead → Res FixValid
+validRes (fix.Ok v) = ok v
+validRes (fix.Refused n) = no n
 
 abbrev pub heightsRes : HeightsRead → Res Heights
 heightsRes (heights.Ok v) = ok v

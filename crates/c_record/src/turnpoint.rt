@@ -55,14 +55,14 @@ impl CRecordTurnpoint {
 
     // The text as a piece of a larger one, from a place on: bytes that are too short cut it, and what lies outside the
     // line is left out. `print` is the printer.
-    pub fn put_piece(self, line: &[u8], buf: &mut [u8], at: usize) -> usize
+    pub fn put_piece(self, buf: &mut [u8], at: usize, line: &[u8]) -> usize
         ensures { λ r. ⌜ Wrote (now (buf .entry)) at (turnpointBody self (maybeBytes (self .«turnpoint_name») (now (line .entry)))) (now (buf .exit)) r ⌝ }
     {
         let position = self.position;
         let name = self.turnpoint_name;
-        let first = put_byte(buf, at, b'C');
-        let second = position.put(buf, first);
-        put_maybe(buf, second, line, name)
+        let at_first = put_byte(buf, at, b'C');
+        let at_second = position.put(buf, at_first);
+        put_maybe(buf, at_second, line, name)
     }
 
     pub fn print(self, line: &[u8], buf: &mut [u8]) -> Printed
@@ -72,10 +72,10 @@ impl CRecordTurnpoint {
         match name.find(line) {
             Found::Refused(no) => Printed::Refused(no),
             Found::At(_inside) => {
-                if buf.len() < self.put_piece(line, &mut [], 0) {
+                if buf.len() < self.put_piece(&mut [], 0, line) {
                     return Printed::Refused(Refusal::NoRoom);
                 }
-                Printed::Written(self.put_piece(line, buf, 0))
+                Printed::Written(self.put_piece(buf, 0, line))
             }
         }
     }

@@ -25,15 +25,15 @@ use Rattle.coord.specs.declared.position.PositionRead.{PositionRead}
 use Rattle.coord.specs.declared.position.PositionRead.the-variants as pos
 
 -- N, S, E, W.
-unfoldable pub letterOf : Compass → ℕ
-letterOf North = 78
-letterOf South = 83
-letterOf East = 69
-letterOf West = 87
+unfoldable pub compassLetter : Compass → ℕ
+compassLetter North = 78
+compassLetter South = 83
+compassLetter East = 69
+compassLetter West = 87
 
 -- x or y by its letter; 1 else.
 unfoldable pub signOf : Compass → Compass → ℕ → Res Compass
-signOf x y l = pick (l =? letterOf x) (ok x) (pick (l =? letterOf y) (ok y) (no Syntax))
+signOf x y l = pick (l =? compassLetter x) (ok x) (pick (l =? compassLetter y) (ok y) (no Syntax))
 
 -- Degrees at most the limit, thousandths of a minute at most 60000; 4 else.
 unfoldable pub coordOf : ℕ → ℕ → ℕ → Compass → Res RawCoord
@@ -55,12 +55,12 @@ readCoord d limit x y s =
 -- Degrees at most the limit, thousandths below 60000, the letter of x or of y; 4 else.
 unfoldable pub newCoord : ℕ → Compass → Compass → ℕ → ℕ → Compass → Res RawCoord
 newCoord limit x y g t sign =
-    guard ((g ≤? limit) ∧? (t ≤? 59999) ∧? ((letterOf sign =? letterOf x) ∨? (letterOf sign =? letterOf y))) OutOfRange
+    guard ((g ≤? limit) ∧? (t ≤? 59999) ∧? ((compassLetter sign =? compassLetter x) ∨? (compassLetter sign =? compassLetter y))) OutOfRange
     (ok (record { degrees = g; «minute_thousandths» = t; sign = sign }))
 
 -- Degrees in width d, thousandths in width 5, the letter.
 unfoldable pub coordText : ℕ → RawCoord → List ℕ
-coordText d c = padded d (c .degrees) ++ (padded 5 (c .«minute_thousandths») ++ (letterOf (c .sign) ∷ []))
+coordText d c = padded d (c .degrees) ++ (padded 5 (c .«minute_thousandths») ++ (compassLetter (c .sign) ∷ []))
 
 -- By the book: thousandths below 60000.
 unfoldable pub coordBook : RawCoord → Bool

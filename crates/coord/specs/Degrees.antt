@@ -6,12 +6,12 @@ use Rattle.coord.specs.declared.Compass.the-variants.{North, South, East
 use Rattle.coord.specs.declared.RawCoord.{RawCoord}
 
 -- Negated for S and W, where zero becomes negative zero.
-unfoldable pub signed : Compass → Float → Float
-signed North x = x
-signed East x = x
-signed South x = neg x
-signed West x = neg x
+unfoldable pub bySign : Compass → Float → Float
+bySign North x = x
+bySign East x = x
+bySign South x = neg x
+bySign West x = neg x
 
 -- Degrees + thousandths / 60000.
 unfoldable pub degreesOf : Format → RawCoord → Float
-degreesOf f c = signed (c .sign) (add f (ofInt f (pos (c .degrees))) (div f (ofInt f (pos (c .«minute_thousandths»))) (ofInt f (pos 60000))))
+degreesOf f c = bySign (c .sign) (add f (ofInt f (pos (c .degrees))) (div f (ofInt f (pos (c .«minute_thousandths»))) (ofInt f (pos 60000))))

@@ -73,7 +73,7 @@ impl RawLatitude {
     pub fn put(self, buf: &mut [u8], at: usize) -> usize
         ensures { λ r. ⌜ Wrote (now (buf .entry)) at (latitudeText self) (now (buf .exit)) r ⌝ }
     {
-        self.0.put(2, buf, at)
+        self.0.put(buf, at, 2)
     }
 
     pub fn print(self, buf: &mut [u8]) -> Printed
@@ -144,7 +144,7 @@ impl RawLongitude {
     pub fn put(self, buf: &mut [u8], at: usize) -> usize
         ensures { λ r. ⌜ Wrote (now (buf .entry)) at (longitudeText self) (now (buf .exit)) r ⌝ }
     {
-        self.0.put(3, buf, at)
+        self.0.put(buf, at, 3)
     }
 
     pub fn print(self, buf: &mut [u8]) -> Printed

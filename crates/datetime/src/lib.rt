@@ -70,9 +70,9 @@ fn read_three(text: &[u8]) -> ThreeRead
 fn put_three(buf: &mut [u8], at: usize, a: u8, b: u8, c: u8) -> usize
     ensures { λ r. ⌜ Wrote (now (buf .entry)) at (threeText a b c) (now (buf .exit)) r ⌝ }
 {
-    let second = put_nat(buf, at, a as u64, 2);
-    let third = put_nat(buf, second, b as u64, 2);
-    put_nat(buf, third, c as u64, 2)
+    let at_second = put_nat(buf, at, a as u64, 2);
+    let at_third = put_nat(buf, at_second, b as u64, 2);
+    put_nat(buf, at_third, c as u64, 2)
 }
 
 impl Time {

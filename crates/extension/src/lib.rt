@@ -72,9 +72,9 @@ impl Extension {
         ensures { λ r. ⌜ Wrote (now (buf .entry)) at (extensionText self) (now (buf .exit)) r ⌝ }
     {
         let mnemonic = self.mnemonic;
-        let end = put_nat(buf, at, self.start_byte as u64, 2);
-        let name = put_nat(buf, end, self.end_byte as u64, 2);
-        mnemonic.put(buf, name)
+        let at_end = put_nat(buf, at, self.start_byte as u64, 2);
+        let at_name = put_nat(buf, at_end, self.end_byte as u64, 2);
+        mnemonic.put(buf, at_name)
     }
 
     pub fn print(self, buf: &mut [u8]) -> Printed

@@ -15,9 +15,9 @@ impl Mnemonic {
     pub fn put(self, buf: &mut [u8], at: usize) -> usize
         ensures { λ r. ⌜ Wrote (now (buf .entry)) at (mnemonicText self) (now (buf .exit)) r ⌝ }
     {
-        let second = put_byte(buf, at, self.0);
-        let third = put_byte(buf, second, self.1);
-        put_byte(buf, third, self.2)
+        let at_second = put_byte(buf, at, self.0);
+        let at_third = put_byte(buf, at_second, self.1);
+        put_byte(buf, at_third, self.2)
     }
 }
 

@@ -44,7 +44,7 @@ module _ {from at : ℕ} {b₀ b : List ℕ} (f : Filling from b₀ b at) where
 -- ---- what a caller goes on with
 
 -- where the input ended is inside
-pub within : (r : Filled) {from : ℕ} {b b′ : List ℕ} → FilledBehind from b b′ r → Within r b′
-within (filled.Ended n) f = omega (arith, f .inside .1, f .long)
-within filled.Full f = tt
-within filled.Failed f = tt
+pub ended-inside : (r : Filled) {from : ℕ} {b b′ : List ℕ} → FilledBehind from b b′ r → Within r b′
+ended-inside (filled.Ended n) f = omega (arith, f .inside .1, f .long)
+ended-inside filled.Full f = tt
+ended-inside filled.Failed f = tt

@@ -16,13 +16,13 @@ module _ (s : List ℕ) (i : ℕ) {n : ℕ} (inv : i + colonIn (drop i s) ≡ n)
   unfolding colonIn pick
   here inside h = let e = rw (drop-cons s i 0, yes= h) at inv in omega arith
 
-  pub further : i < length s → (getD s i 0 ≡ 58 → ⊥) → i + 1 + colonIn (drop (i + 1) s) ≡ n
+  pub colon-next : i < length s → (getD s i 0 ≡ 58 → ⊥) → i + 1 + colonIn (drop (i + 1) s) ≡ n
   unfolding colonIn pick
-  further inside h = let e = rw (drop-cons s i 0, no= h) at inv in rw add-one (omega arith)
+  colon-next inside h = let e = rw (drop-cons s i 0, no= h) at inv in rw add-one (omega arith)
 
-  pub nowhere : i ≡ length s → i ≡ n
+  pub colon-nowhere : i ≡ length s → i ≡ n
   unfolding colonIn
-  nowhere e = let z = rw (e, drop-length) at inv in omega arith
+  colon-nowhere e = let z = rw (e, drop-length) at inv in omega arith
 
 -- the first colon is at the end at the latest
 pick-most : (t : Bool) {a b n : ℕ} → a ≤ n → b ≤ n → pick t a b ≤ n

@@ -74,7 +74,7 @@ fn colon(line: &[u8]) -> usize
 }
 
 // A character as Rust's `char` prints: a source of 128 or more, built by hand, takes two bytes.
-fn put_char(b: u8, buf: &mut [u8], at: usize) -> usize
+fn put_char(buf: &mut [u8], at: usize, b: u8) -> usize
     ensures { λ r. ⌜ Wrote (now (buf .entry)) at (charText b) (now (buf .exit)) r ⌝ }
 {
     if b <= 127 {
@@ -85,14 +85,14 @@ fn put_char(b: u8, buf: &mut [u8], at: usize) -> usize
 }
 
 // A name with its colon; nothing where there is no name.
-fn put_name(name: MaybePart, line: &[u8], buf: &mut [u8], at: usize) -> usize
+fn put_name(buf: &mut [u8], at: usize, name: MaybePart, line: &[u8]) -> usize
     ensures { λ r. ⌜ Wrote (now (buf .entry)) at (nameText name (maybeBytes name (now (line .entry)))) (now (buf .exit)) r ⌝ }
 {
     match name {
         MaybePart::Missing => at,
         MaybePart::At(p) => {
-            let colon = put_part(buf, at, line, p);
-            put_byte(buf, colon, b':')
+            let at_colon = put_part(buf, at, line, p);
+            put_byte(buf, at_colon, b':')
         }
     }
 }
@@ -155,26 +155,26 @@ impl HRecord {
     }
 
     // The name with its colon, and the data.
-    fn put_data(self, line: &[u8], buf: &mut [u8], at: usize) -> usize
+    fn put_data(self, buf: &mut [u8], at: usize, line: &[u8]) -> usize
         ensures { λ r. ⌜ Wrote (now (buf .entry)) at (dataText self (maybeBytes (self .«friendly_name») (now (line .entry))) (partBytes (self .«data») (now (line .entry)))) (now (buf .exit)) r ⌝ }
     {
         let name = self.friendly_name;
         let data = self.data;
-        let next = put_name(name, line, buf, at);
+        let next = put_name(buf, at, name, line);
         put_part(buf, next, line, data)
     }
 
     // The text as a piece of a larger one, from a place on: bytes that are too short cut it, and what lies outside the
     // line is left out. `print` is the printer.
-    pub fn put_piece(self, line: &[u8], buf: &mut [u8], at: usize) -> usize
+    pub fn put_piece(self, buf: &mut [u8], at: usize, line: &[u8]) -> usize
         ensures { λ r. ⌜ Wrote (now (buf .entry)) at (hBody self (partBytes (self .mnemonic) (now (line .entry))) (maybeBytes (self .«friendly_name») (now (line .entry))) (partBytes (self .«data») (now (line .entry)))) (now (buf .exit)) r ⌝ }
     {
         let mnemonic = self.mnemonic;
         let source = self.data_source;
-        let first = put_byte(buf, at, b'H');
-        let second = put_char(source.to_byte(), buf, first);
-        let third = put_part(buf, second, line, mnemonic);
-        self.put_data(line, buf, third)
+        let at_first = put_byte(buf, at, b'H');
+        let at_second = put_char(buf, at_first, source.to_byte());
+        let at_third = put_part(buf, at_second, line, mnemonic);
+        self.put_data(buf, at_third, line)
     }
 
     pub fn print(self, line: &[u8], buf: &mut [u8]) -> Printed
@@ -190,10 +190,10 @@ impl HRecord {
                 Found::At(_name) => match data.find(line) {
                     Found::Refused(no_data) => Printed::Refused(no_data),
                     Found::At(_data) => {
-                        if buf.len() < self.put_piece(line, &mut [], 0) {
+                        if buf.len() < self.put_piece(&mut [], 0, line) {
                             return Printed::Refused(Refusal::NoRoom);
                         }
-                        Printed::Written(self.put_piece(line, buf, 0))
+                        Printed::Written(self.put_piece(buf, 0, line))
                     }
                 },
             },

@@ -6,7 +6,7 @@ use native.Mathlib.Omega.{arith}
 use lib.ListN.{length}
 use Rattle.text.specs.Res.{_≤?_}
 use Rattle.text.proofs.Steps.{first, second, yes≤, no≤, is≤, isnt≤}
-use Rattle.log.proofs.Ends.{either}
+use Rattle.log.proofs.Ends.{by-test}
 use Rattle.listing_text.specs.Listing.{listingText, roomFor}
 use Rattle.listing_text.specs.Paper.{tooLong, paperText, PaperHasRoom}
 use Rattle.listing_text.proofs.Room.{has-room}
@@ -23,6 +23,6 @@ paper-long log h = second _ (no≤ h) refl
 pub paper-has-room : PaperHasRoom
 unfolding roomFor tooLong
 paper-has-room log =
-    either (length log ≤? 65536)
+    by-test (length log ≤? 65536)
     (λ e. rw (sym (paper-short log (is≤ e))) (omega (arith, has-room log (omega (arith, is≤ e)), is≤ e)))
     (λ e. rw (sym (paper-long log (isnt≤ e))) (omega arith))

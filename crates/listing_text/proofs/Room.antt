@@ -41,10 +41,10 @@ unfolding plain
 plain-le k n h = omega (arith, length-padded 1 n, places-le k n h)
 
 -- what both have, the one that is picked has
-picked : {A : Type 0} (P : A → Type 0) (t : Bool) {a b : A} → P a → P b → P (pick t a b)
+picked-has : {A : Type 0} (P : A → Type 0) (t : Bool) {a b : A} → P a → P b → P (pick t a b)
 unfolding pick
-picked P true p q = p
-picked P false p q = q
+picked-has P true p q = p
+picked-has P false p q = q
 
 -- ---- the answer to a line, and its heights
 
@@ -53,8 +53,8 @@ abbrev Short : Res Record → Type 0
 Short m = (answered m ≤ 12) × (length (heightsOf (answerFix m)) ≤ 12)
 
 -- nothing is said of what is found
-any : {A : Type 0} {m : Res A} → Finds m (λ _. Unit)
-any = record { found = λ _ _. tt }
+finds-any : {A : Type 0} {m : Res A} → Finds m (λ _. Unit)
+finds-any = record { found = λ _ _. tt }
 
 -- the heights of a line have 5 characters each
 heights-columns : (s : List ℕ) → 35 ≤ length s
@@ -70,7 +70,7 @@ fix-short : (s : List ℕ) → Finds (readB s) (λ r. Short (ok (rec.B r)))
 unfolding readB ascii asciiIn readFix answered acceptedAs answerFix recordFix heightsOf fixHeights
 fix-short s =
     finds-guard _ (λ long. finds-guard _ (λ _.
-    finds-bind any (λ _ _. finds-bind any (λ _ _. finds-bind any (λ _ _.
+    finds-bind finds-any (λ _ _. finds-bind finds-any (λ _ _. finds-bind finds-any (λ _ _.
     finds-bind (heights-columns s (is≤ long)) (λ h e. finds-ok (omega arith, simp length-append (omega arith))))))))
 
 -- a record of any kind is short: only a fix has heights
@@ -78,17 +78,17 @@ kind-short : (b : ℕ) (s : List ℕ) → Finds (readKind (kindOf b) s) (λ r. S
 unfolding kindOf readKind readC answered acceptedAs answerFix recordFix heightsOf
 kind-short b s =
     let P : _ → Type 0 = λ k. Finds (readKind k s) (λ r. Short (ok r)) in
-    picked P _ (finds-bind any (λ _ _. finds-ok (omega arith)))
-    (picked P _ (finds-bind (fix-short s) (λ r h. finds-ok h))
-    (picked P _
+    picked-has P _ (finds-bind finds-any (λ _ _. finds-ok (omega arith)))
+    (picked-has P _ (finds-bind (fix-short s) (λ r h. finds-ok h))
+    (picked-has P _
     (finds-guard _ (λ _.
     finds-pick
-    (λ _. finds-bind any (λ _ _. finds-ok (omega arith)))
-    (λ _. finds-bind any (λ _ _. finds-ok (omega arith)))))
-    (picked P _ (finds-bind any (λ _ _. finds-ok (omega arith)))
-    (picked P _ (finds-bind any (λ _ _. finds-ok (omega arith)))
-    (picked P _ (finds-bind any (λ _ _. finds-ok (omega arith)))
-    (picked P _ (finds-ok (omega arith)) (finds-ok (omega arith))))))))
+    (λ _. finds-bind finds-any (λ _ _. finds-ok (omega arith)))
+    (λ _. finds-bind finds-any (λ _ _. finds-ok (omega arith)))))
+    (picked-has P _ (finds-bind finds-any (λ _ _. finds-ok (omega arith)))
+    (picked-has P _ (finds-bind finds-any (λ _ _. finds-ok (omega arith)))
+    (picked-has P _ (finds-bind finds-any (λ _ _. finds-ok (omega arith)))
+    (picked-has P _ (finds-ok (omega arith)) (finds-ok (omega arith))))))))
 
 -- a refusal has a number of at most two characters
 refusal-le : (n : Refusal) → numberOf n ≤ 12
@@ -141,7 +141,7 @@ line-fits {c} k f h =
     record {
       lines = omega arith;
       refused = omega (arith, one-at-most (isRefusal (readLine (lineText k))));
-      offset = picked P _ (picked P _ (plain-le 19 (c .place) (omega arith)) (omega arith)) (f .offset);
+      offset = picked-has P _ (picked-has P _ (plain-le 19 (c .place) (omega arith)) (omega arith)) (f .offset);
     }
 
 -- ---- the listing

@@ -44,7 +44,7 @@ at-start log b at short h k = record {
   short = short;
   held = _;
   reached = fold.at-start;
-  wrote = rw (no-text reader lineOf (fresh reader nothing)) (writing.nothing b at h k);
+  wrote = rw (no-text reader lineOf (fresh reader nothing)) (writing.wrote-nothing b at h k);
   lines = omega arith;
   refused = omega arith;
 }

@@ -21,12 +21,12 @@ answered (ok r) = acceptedAs r
 answered (no n) = numberOf n
 
 -- The first byte if A to Z, else `-`.
-unfoldable pub letterOf : List ℕ → ℕ
-letterOf s = pick ((65 ≤? byte 0 s) ∧? (byte 0 s ≤? 90)) (byte 0 s) 45
+unfoldable pub firstLetter : List ℕ → ℕ
+firstLetter s = pick ((65 ≤? byte 0 s) ∧? (byte 0 s ≤? 90)) (byte 0 s) 45
 
 -- The letter and the answer.
 unfoldable pub answerText : List ℕ → Res Record → List ℕ
-answerText s m = (32 ∷ []) ++ ((letterOf s ∷ []) ++ ((32 ∷ []) ++ plain (answered m)))
+answerText s m = (32 ∷ []) ++ ((firstLetter s ∷ []) ++ ((32 ∷ []) ++ plain (answered m)))
 
 -- The line's number, its letter and the answer.
 unfoldable pub headText : ℕ → List ℕ → Res Record → List ℕ

@@ -13,7 +13,7 @@ use Rattle.part.specs.Part.{bytesOf, partBytes}
 use Rattle.log.specs.Line.{width, lineText, cutAt}
 use Rattle.log.specs.Log.{chunks, closed, Reader, LineRead, readFrom, readings}
 use Rattle.log.specs.declared.Cut.{Cut}
-use Rattle.log.proofs.Ends.{either, width-le, lineText-first}
+use Rattle.log.proofs.Ends.{by-test, width-le, lineText-first}
 use Rattle.log.proofs.Cuts.{next-gt, next-le, cut-viewed}
 use Rattle.log.specs.Fold.{over, texts, orElse, firstWith, keep, Carried, fresh, readAt, readOn, pastLine}
 use Rattle.log.specs.Fold.{pastLines, fed}
@@ -53,7 +53,7 @@ module _ {A H T : Type 0} {R : Reader A H} {step : T → LineRead A H → T} whe
     -- who goes on from here makes what the whole makes
     rest : fed R step c (drop at s) ≡ fed R step c₀ s
     rest =
-        either (length s ≤? at)
+        by-test (length s ≤? at)
         (λ e. rw (drop-of-length-le s (is≤ e), r .made, take-all at s (is≤ e)) (fed-none R step _))
         (λ e. rw (r .made) (sym (fed-append R step c₀ (take at s) (drop at s) (r .whole (isnt≤ e))) ∙ rw (take-append-drop at s)))
 

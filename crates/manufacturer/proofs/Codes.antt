@@ -33,23 +33,23 @@ is-triple {t} (triple.Triple u) h =
 
 -- what holds of the other, and of whoever passes the test, holds of the maker found
 module _ (P : Manufacturer → Type 0) {test : Manufacturer → Bool} {other : Manufacturer} (else : P other) (passes : (m : Manufacturer) → test m ≡ true → P m) where
-  picked : (b : Bool) {m n : Manufacturer} → (b ≡ true → P m) → P n → P (pick b m n)
+  picked-has : (b : Bool) {m n : Manufacturer} → (b ≡ true → P m) → P n → P (pick b m n)
   unfolding pick
-  picked true p q = p refl
-  picked false p q = q
+  picked-has true p q = p refl
+  picked-has false p q = q
 
-  found : (ms : List Manufacturer) → P (firstOf test other ms)
+  firstOf-has : (ms : List Manufacturer) → P (firstOf test other ms)
   unfolding firstOf
-  found [] = else
-  found (m ∷ ms) = picked (test m) (passes m) (found ms)
+  firstOf-has [] = else
+  firstOf-has (m ∷ ms) = picked-has (test m) (passes m) (firstOf-has ms)
 
 pub letter-read : (l : ℕ) → letterOf (letterMaker l) ≡ letter.Letter l
 unfolding letterMaker letterOf
-letter-read l = found (λ m. letterOf m ≡ letter.Letter l) refl (λ m h. is-letter (letterOf m) h) known
+letter-read l = firstOf-has (λ m. letterOf m ≡ letter.Letter l) refl (λ m h. is-letter (letterOf m) h) known
 
 pub triple-read : (t : Mnemonic) → tripleOf (tripleMaker t) ≡ triple.Triple t
 unfolding tripleMaker tripleOf
-triple-read t = found (λ m. tripleOf m ≡ triple.Triple t) refl (λ m h. is-triple (tripleOf m) h) known
+triple-read t = firstOf-has (λ m. tripleOf m ≡ triple.Triple t) refl (λ m h. is-triple (tripleOf m) h) known
 
 -- ---- a maker's code is read as that maker
 

@@ -107,5 +107,5 @@ unfoldable pub tripleMaker : Mnemonic → Manufacturer
 tripleMaker t = firstOf (λ m. isTriple t (tripleOf m)) (maker.UnknownTriple t) known
 
 -- Three bytes as one number.
-unfoldable pub numberOf : Mnemonic → ℕ
-numberOf t = t .0 * 65536 + t .1 * 256 + t .2
+unfoldable pub tripleNumber : Mnemonic → ℕ
+tripleNumber t = t .0 * 65536 + t .1 * 256 + t .2

@@ -1,7 +1,7 @@
 // Makers of recorders and their codes, as src/util/manufacturer.rs has them. The readers list the makers in the order of the
 // definition `known`, by which their last arm is proved.
 ghost use mathlib.Core.Path.{_≡_};
-ghost use Rattle.manufacturer.specs.Maker.{letterOf, tripleOf, letterMaker, tripleMaker, numberOf};
+ghost use Rattle.manufacturer.specs.Maker.{letterOf, tripleOf, letterMaker, tripleMaker, tripleNumber};
 use Manufacturer::*;
 use MaybeLetter::Letter;
 use MaybeTriple::Triple;
@@ -48,7 +48,7 @@ pub enum MaybeTriple {
 
 // Three bytes as one number, so that one `match` decides on all of them.
 fn number(triple: Mnemonic) -> u32
-    ensures { λ r. ⌜ r ≡ numberOf triple ⌝ }
+    ensures { λ r. ⌜ r ≡ tripleNumber triple ⌝ }
 {
     (triple.0 as u32) * 65536 + (triple.1 as u32) * 256 + (triple.2 as u32)
 }

@@ -10,7 +10,7 @@ use Rattle.text.specs.Word.{largest}
 use Rattle.text.proofs.Steps.{yes≤, is≤, and, both}
 use Rattle.part.specs.Part.{partBytes, bytesOf}
 use Rattle.put.specs.Put.{Wrote}
-use Rattle.put.proofs.Writing.{kept, nothing, then}
+use Rattle.put.proofs.Writing.{wrote-length, wrote-nothing, then}
 use Rattle.records.specs.Record.{readingRes}
 use Rattle.log.specs.Line.{cutAt}
 use Rattle.log.specs.Log.{chunks}
@@ -41,13 +41,13 @@ unfolding countStep counted
 one-line t x = omega arith
 
 -- Where a piece is ready no place and no count passes 64 bits over its bytes.
-pub within : (c : Carried) (n : ℕ) → isReady c n ≡ true →
+pub within-64-bits : (c : Carried) (n : ℕ) → isReady c n ≡ true →
     (c .walk .at .place + n ≤ largest)
     × (c .walk .at .number + n ≤ largest)
     × (c .trailer .lines + n ≤ largest)
     × (c .trailer .refused + n ≤ largest)
 unfolding isReady
-within c n e =
+within-64-bits c n e =
     let k = both e in
     let l = both (k .1) in
     let m = both (l .1) in
@@ -86,7 +86,7 @@ module _ {p : Product} {names : List ℕ} {c : Carried} {s b₀ : List ℕ} wher
       record {
         reached = rw z reached.at-start;
         left = rw z left-all;
-        wrote = rw (no-text reader (textOf p names) (view c)) (nothing b₀ 0 short (omega arith));
+        wrote = rw (no-text reader (textOf p names) (view c)) (wrote-nothing b₀ 0 short (omega arith));
         fits = omega arith;
         ready = e;
       }
@@ -94,12 +94,12 @@ module _ {p : Product} {names : List ℕ} {c : Carried} {s b₀ : List ℕ} wher
   module _ {b : List ℕ} {h : Held} {n : ℕ} {t : Trailer} {at end : ℕ} (f : Feeding p names c s b₀ b h n t at end) where
     -- No place passes 64 bits.
     pub place-small : placed c at ≤ largest
-    place-small = omega (arith, within c (length s) (f .ready) .0, f .reached .inside)
+    place-small = omega (arith, within-64-bits c (length s) (f .ready) .0, f .reached .inside)
 
     -- Neither the number of a line does, nor a count over the lines.
     pub counts-small : at < length s → (n < largest) × (t .lines < largest) × (t .refused < largest)
     counts-small i =
-        let k = within c (length s) (f .ready) in (
+        let k = within-64-bits c (length s) (f .ready) in (
           omega (arith, k .1, reached.few (f .reached)),
           omega (arith, k .2, reached.at-most (f .reached) (λ t. t .lines) one-line),
           omega (arith, k .3, reached.at-most (f .reached) (λ t. t .refused) one-refused),
@@ -153,8 +153,8 @@ module _ {p : Product} {names : List ℕ} {c : Carried} {s b₀ : List ℕ} wher
           let made = rw v at (m ∙ tallied-is t _ _ _ (small .1) (small .2)) in
           let q : placed c (g .next) + at ≡ placed c at + g .next = omega arith in
           let held = k ∙ ap (reader .after (placed c at) h) v in
-          let long : to ≡ end + length text = omega (arith, wrote-text .next, wrote-text .short, kept wrote-text) in
-          let fits : to ≤ length b₀ = omega (arith, kept wrote-text, kept (f .wrote)) in
+          let long : to ≡ end + length text = omega (arith, wrote-text .next, wrote-text .short, wrote-length wrote-text) in
+          let fits : to ≤ length b₀ = omega (arith, wrote-length wrote-text, wrote-length (f .wrote)) in
           let answer = answer-of at s e in
           record {
             reached = turn i (f .reached) e q held made;
@@ -169,7 +169,7 @@ module _ {p : Product} {names : List ℕ} {c : Carried} {s b₀ : List ℕ} wher
           Took reader countStep (textOf p names) (view c) s b₀ b′ (behind c h n t at) at end
       full r =
           let over : length b₀ < end + length text =
-          omega (arith, wrote-text .next, kept wrote-text, kept (f .wrote)) in
+          omega (arith, wrote-text .next, wrote-length wrote-text, wrote-length (f .wrote)) in
           stops
           (left-full (f .left) i (omega (arith, f .fits, rw text-here at over)))
           (rw (next-is reader countStep (textOf p names) (f .reached) i)
@@ -183,10 +183,10 @@ sets-later x b i [] = refl
 sets-later x b i (y ∷ t) = sets-later x (set b i y) (suc i) t
 
 -- What was written from the start on stands there, whatever was written behind it.
-stands : (b t u : List ℕ) → length t ≤ length b → take (length t) (sets b 0 (t ++ u)) ≡ t
-stands b [] u h = refl
-stands [] (x ∷ t) u h = let no : ⊥ = omega arith in absurd no
-stands (y ∷ b) (x ∷ t) u h = rw (sets-later x b 0 (t ++ u), stands b t u (omega arith))
+front-stands : (b t u : List ℕ) → length t ≤ length b → take (length t) (sets b 0 (t ++ u)) ≡ t
+front-stands b [] u h = refl
+front-stands [] (x ∷ t) u h = let no : ⊥ = omega arith in absurd no
+front-stands (y ∷ b) (x ∷ t) u h = rw (sets-later x b 0 (t ++ u), front-stands b t u (omega arith))
 
 module _ (p : Product) (names : List ℕ) (c : Carried) (s b b′ : List ℕ) (r : Fed) where
   -- What is carried on is what the bytes that were taken make, and what was written is their text, which has room.
@@ -199,7 +199,7 @@ module _ (p : Product) (names : List ℕ) (c : Carried) (s b b′ : List ℕ) (r
   fed-of : (ready : Bool) → FedOf ready p names c s b b′ r → Called
   fed-of true k = (
     record { inside = k .inside; whole = k .whole; made = k .carried },
-    rw (k .content, k .text-end) (stands b _ _ (omega (arith, k .text-end, k .fits))),
+    rw (k .content, k .text-end) (front-stands b _ _ (omega (arith, k .text-end, k .fits))),
     k .fits,
   )
   fed-of false k = rw (k .0) (reached.at-start, sym (no-text reader (textOf p names) (view c)), omega arith)

@@ -26,7 +26,7 @@ use Rattle.products.specs.declared.Product.{Product}
 use Rattle.products.specs.declared.Product.the-variants.{Listing, Fields}
 use Rattle.products.specs.declared.Carried.{Carried}
 use Rattle.products.specs.declared.Fed.{Fed}
-use Rattle.products.proofs.Feeding.{one-line, within, so-ready, called}
+use Rattle.products.proofs.Feeding.{one-line, within-64-bits, so-ready, called}
 
 -- The product of a listing is the listing.
 listing-is : (names log : List ℕ) → productText Listing names log ≡ listingText log
@@ -73,7 +73,7 @@ still-ready : (p : Product) (names : List ℕ) (c : Carried) (s b b′ : List �
     Feeds p names c s b b′ r → isReady c (r .taken + n) ≡ true → isReady (r .carried) n ≡ true
 still-ready p names c s b b′ r n k e =
     let at = called p names c s b b′ r k .0 in
-    let w = within c (r .taken + n) e in
+    let w = within-64-bits c (r .taken + n) e in
     let place = ap (λ (k : fold.Carried Held Trailer). k .place) (at .made) ∙ place-is reader countStep (view c) _ in
     so-ready (r .carried) n
     (omega (arith, w .0, place, length-take-le (r .taken) s (at .inside)))

@@ -14,9 +14,9 @@ use Rattle.text.proofs.Finds.{Finds, finds-guard}
 use Rattle.field.specs.Field.{sized, asciiIn, ascii, field}
 
 -- w columns from a on, and all that stands behind them, are all from a on
-pub joined : (a w : ℕ) (s : List ℕ) → cut a (a + w) s ++ drop (a + w) s ≡ drop a s
+pub cut-joined : (a w : ℕ) (s : List ℕ) → cut a (a + w) s ++ drop (a + w) s ≡ drop a s
 unfolding cut
-joined a w s = rw (add-sub-cancel-left a w, ← drop-drop w a s) (take-append-drop w (drop a s))
+cut-joined a w s = rw (add-sub-cancel-left a w, ← drop-drop w a s) (take-append-drop w (drop a s))
 
 -- the same of one column
 pub joined-byte : (a : ℕ) (s : List ℕ) → a < length s → (byte a s ∷ []) ++ drop (a + 1) s ≡ drop a s

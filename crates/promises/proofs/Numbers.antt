@@ -15,15 +15,15 @@ use Rattle.text.proofs.Decimal.{value-padded, zeros-value}
 use Rattle.text.proofs.RoundTrip.{first-padded, padded-read, signed-read, nat-columns, int-columns}
 use Rattle.text.specs.Line.{cut, columns}
 use Rattle.text.proofs.Lines.{cut-length}
-use Rattle.log.proofs.Ends.{either}
+use Rattle.log.proofs.Ends.{by-test}
 use Rattle.promises.specs.Odd.{signedOdd}
 use Rattle.promises.proofs.Columns.{finds-columns}
-use Rattle.promises.proofs.Copies.{Copy, none}
+use Rattle.promises.proofs.Copies.{Copy, neither-odd}
 
 -- ---- a printed number is not odd
 
 not-zeros : (w n : ℕ) → zeros (padded w (suc n)) ≡ false
-not-zeros w n = either (zeros (padded w (suc n))) (λ e. absurd (omega (arith, zeros-value (padded w (suc n)) e, value-padded w (suc n)))) (λ e. e)
+not-zeros w n = by-test (zeros (padded w (suc n))) (λ e. absurd (omega (arith, zeros-value (padded w (suc n)) e, value-padded w (suc n)))) (λ e. e)
 
 plain-padded : (w n : ℕ) → plus (padded w n) ≡ false
 unfolding plus
@@ -31,8 +31,8 @@ plain-padded w n = first-padded w n 43 (omega arith)
 
 plain-signed : (w : ℕ) (z : ℤ) → signedOdd (signed w z) ≡ false
 unfolding signed signedOdd plus minusZero _=?_ _∧?_ pick
-plain-signed w (pos n) = none (plain-padded w n) (fails _ (first-padded w n 45 (omega arith)))
-plain-signed w (negsuc n) = none refl (not-zeros (w - 1) n)
+plain-signed w (pos n) = neither-odd (plain-padded w n) (fails _ (first-padded w n 45 (omega arith)))
+plain-signed w (negsuc n) = neither-odd refl (not-zeros (w - 1) n)
 
 -- ---- in columns of a line
 

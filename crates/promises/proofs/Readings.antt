@@ -9,7 +9,7 @@ use Rattle.field.specs.Field.{isAscii, sized, asciiIn, ascii, field, mnemonicTe
 use Rattle.datetime.specs.Three.{readThree, threeText}
 use Rattle.datetime.specs.Time.{timeOf, readTime, timeText, secondsOf}
 use Rattle.datetime.specs.Date.{dateOf, readDate, dateText}
-use Rattle.coord.specs.Coord.{letterOf, signOf, coordOf, lettered, readCoord, latitude, readLatitude}
+use Rattle.coord.specs.Coord.{compassLetter, signOf, coordOf, lettered, readCoord, latitude, readLatitude}
 use Rattle.manufacturer.specs.Maker as maker
 use Rattle.extension.specs.Extension.{readDefinition, readExtension}
 use Rattle.table.specs.Table.{readDefs, readBody, isTable, readTable}
@@ -25,7 +25,7 @@ use Rattle.promises.specs.Starred.{Starred}
 
 pub starred : Starred
 unfolding
-    bind guard pick _≤?_ _=?_ _∧?_ _∨?_ bytesOf findPart findMaybe textOf partText maybeText restFrom nameFrom isDigit allDigits valueFrom readDigits readNat readInt digits placesIn placesOf padded signed zeros isAscii cut columns sized asciiIn ascii field mnemonicText readThree threeText timeOf readTime timeText secondsOf dateOf readDate dateText letterOf signOf coordOf lettered readCoord latitude readLatitude maker.letterOf maker.spelt maker.tripleOf maker.known maker.firstOf maker.isLetter maker.isTriple maker.letterMaker maker.tripleMaker readDefinition readExtension readDefs readBody isTable readTable findValue aNew aOf letterForm longForm readTriple readA tripleText aBody aText turns readFlight readTask readDeclaration flightText taskText declarationBody declarationText sourceByte sourceOf colonIn named readH isNotTaken kindOf whole readC readKind readLine recordText recordTable answerPrinted reprinted speltFrom spelt
+    bind guard pick _≤?_ _=?_ _∧?_ _∨?_ bytesOf findPart findMaybe textOf partText maybeText restFrom nameFrom isDigit allDigits valueFrom readDigits readNat readInt digits placesIn placesOf padded signed zeros isAscii cut columns sized asciiIn ascii field mnemonicText readThree threeText timeOf readTime timeText secondsOf dateOf readDate dateText compassLetter signOf coordOf lettered readCoord latitude readLatitude maker.letterOf maker.spelt maker.tripleOf maker.known maker.firstOf maker.isLetter maker.isTriple maker.letterMaker maker.tripleMaker readDefinition readExtension readDefs readBody isTable readTable findValue aNew aOf letterForm longForm readTriple readA tripleText aBody aText turns readFlight readTask readDeclaration flightText taskText declarationBody declarationText sourceByte sourceOf colonIn named readH isNotTaken kindOf whole readC readKind readLine recordText recordTable answerPrinted reprinted speltFrom spelt
 starred = record {
   line-empty = refl;
   line-HFFTY = refl;

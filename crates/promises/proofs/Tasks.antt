@@ -16,8 +16,8 @@ use Rattle.c_record.specs.CRecord.{readFlight, flightText, readTask, taskText, 
 use Rattle.c_record.specs.CRecord.{declarationText, readTurnpoint, turnpointBody, turnpointText}
 use Rattle.promises.specs.Odd.{threePlus, signedOdd, declarationOdd, turnpointOdd}
 use Rattle.promises.proofs.Columns.{finds-columns}
-use Rattle.promises.proofs.Copies.{Copy, itself, next, rest, letter}
-use Rattle.promises.proofs.Parts.{name-text, Again, again}
+use Rattle.promises.proofs.Copies.{Copy, copy-itself, copy-columns, copy-rest, copy-letter}
+use Rattle.promises.proofs.Parts.{name-text, Again, printed-again}
 use Rattle.promises.proofs.Numbers.{nat-copy, int-copy}
 use Rattle.promises.proofs.Times.{time-copy, date-copy}
 use Rattle.promises.proofs.Coords.{position-copy}
@@ -33,7 +33,7 @@ zeros-all (b ∷ s) z = let k = both z in rw (is= (k .0), zeros-all s (k .1))
 none-copy : (s : List ℕ) → 48 ∷ 48 ∷ 48 ∷ 48 ∷ 48 ∷ 48 ∷ [] ≡ s →
     Copy (threePlus s) s (48 ∷ 48 ∷ 48 ∷ 48 ∷ 48 ∷ 48 ∷ [])
 unfolding threePlus plus cut _=?_ _∨?_ pick
-none-copy s e = rw (← e) (itself _)
+none-copy s e = rw (← e) (copy-itself _)
 
 flight-copy : (s : List ℕ) → length s ≡ 6 → Finds (readFlight s) (λ f. Copy (threePlus s) s (flightText f))
 unfolding readFlight flightText
@@ -48,7 +48,7 @@ unfolding readTask
 task-copy s l =
     finds-bind (nat-copy 19 4 65535 s (omega arith)) (λ id ci.
     finds-bind (int-copy 23 2 127 s (omega arith)) (λ count cc.
-    finds-ok (next s 19 4 ci (rest s 23 2 cc))))
+    finds-ok (copy-columns s 19 4 ci (copy-rest s 23 2 cc))))
 
 pub declaration-again : (s : List ℕ) → byte 0 s ≡ 67 →
     Finds (readDeclaration s) (λ r. Again (declarationOdd s) s (declarationText r s))
@@ -60,8 +60,8 @@ declaration-again s b =
     finds-bind (finds-columns _ s 7 13 (time-copy (cut 7 13 s))) (λ time ct.
     finds-bind (finds-columns _ s 13 19 (flight-copy (cut 13 19 s) (cut-length 13 6 s (omega arith)))) (λ flight cf.
     finds-bind (task-copy s l) (λ task ck.
-    finds-ok (again (on _ (name-text 25 s l) refl)
-    (letter s 0 67 (omega arith) (sym b) (next s 1 6 cd (next s 7 6 ct (next s 13 6 cf ck))))))))))))
+    finds-ok (printed-again (on _ (name-text 25 s l) refl)
+    (copy-letter s 0 67 (omega arith) (sym b) (copy-columns s 1 6 cd (copy-columns s 7 6 ct (copy-columns s 13 6 cf ck))))))))))))
 
 -- ---- turnpoints
 
@@ -72,4 +72,4 @@ turnpoint-again s b =
     finds-guard _ (λ long. let l : 18 ≤ length s = is≤ long in
     finds-guard _ (λ _. finds-guard _ (λ _.
     finds-bind (finds-columns _ s 1 18 (position-copy (cut 1 18 s))) (λ pos cp.
-    finds-ok (again (on _ (name-text 18 s l) refl) (letter s 0 67 (omega arith) (sym b) (rest s 1 17 cp)))))))
+    finds-ok (printed-again (on _ (name-text 18 s l) refl) (copy-letter s 0 67 (omega arith) (sym b) (copy-rest s 1 17 cp)))))))

@@ -14,7 +14,7 @@ use Rattle.part.specs.Part.{bytesOf}
 use Rattle.records.specs.Record.{readLine}
 use Rattle.log.specs.Line.{cutAt}
 use Rattle.log.specs.Log.{chunks, readFrom, readings}
-use Rattle.log.proofs.Ends.{either}
+use Rattle.log.proofs.Ends.{by-test}
 use Rattle.log.proofs.Cuts.{read-past, read-line, next-gt, next-le, cut-viewed}
 use Rattle.held.specs.Held.{noTable, heldAfter}
 use Rattle.held.specs.declared.Held.{Held}
@@ -60,7 +60,7 @@ walked-from s (suc k) w i n =
     let on = read-line reader s (w .at .number) (w .at .place) (w .held) in
     let off = read-past reader s (w .at .number) (w .at .place) (w .held) in
     let le = next-le s (w .at .place) i in
-    either (w .at .place + 1 ≤? length s)
+    by-test (w .at .place + 1 ≤? length s)
     (λ e.
     let p : w .at .place < length s = omega (arith, is≤ e) in
     let ih = walked-from s k (then s w) le (omega (arith, next-gt s (w .at .place) p)) in
@@ -81,7 +81,7 @@ handed-walked log (suc k) c h i =
     let s = now log in
     let w : Walk = record { at = c; held = h } in
     let ih = handed-walked log k (then s w .at) (then s w .held) (next-le s (c .place) i) in
-    either ((c .place + 1 ≤? length s) ∧? (c .number + 1 ≤? largest))
+    by-test ((c .place + 1 ≤? length s) ∧? (c .number + 1 ≤? largest))
     (λ e. rw (e, cut-viewed s (c .place) i, viewed (readLine (at s w)), ih))
     (λ e. rw e)
 

@@ -18,7 +18,7 @@ use Rattle.datetime.specs.Date.{dateRes}
 use Rattle.coord.specs.Coord.{latitudeRes, longitudeRes, positionRes}
 use Rattle.extension.specs.Extension.{extensionRes}
 use Rattle.a_record.specs.ARecord.{aRes}
-use Rattle.b_record.specs.BRecord.{fixRes, bRes}
+use Rattle.b_record.specs.BRecord.{validRes, bRes}
 use Rattle.c_record.specs.CRecord.{declarationRes, turnpointRes}
 use Rattle.h_record.specs.HRecord.{hRes}
 use Rattle.records.specs.Record.{readingRes}
@@ -44,7 +44,7 @@ pub record Determined : Type 1 where
   pub position : Tells positionRes
   pub extension : Tells extensionRes
   pub a : Tells aRes
-  pub fix : Tells fixRes
+  pub fix : Tells validRes
   pub b : Tells bRes
   pub declaration : Tells declarationRes
   pub turnpoint : Tells turnpointRes

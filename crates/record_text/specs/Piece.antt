@@ -8,7 +8,7 @@ use Rattle.part.specs.declared.MaybePart.the-variants as maybe
 use Rattle.field.specs.Field.{mnemonicText}
 use Rattle.datetime.specs.declared.Time.{Time}
 use Rattle.datetime.specs.declared.Date.{Date}
-use Rattle.coord.specs.Coord.{letterOf}
+use Rattle.coord.specs.Coord.{compassLetter}
 use Rattle.coord.specs.declared.RawCoord.{RawCoord}
 use Rattle.coord.specs.declared.position.RawPosition.{RawPosition}
 use Rattle.manufacturer.specs.declared.MaybeLetter.{MaybeLetter}
@@ -21,8 +21,8 @@ use Rattle.b_record.specs.declared.GpsAlt.{GpsAlt}
 use Rattle.c_record.specs.declared.MaybeDate.{MaybeDate}
 use Rattle.c_record.specs.declared.MaybeDate.the-variants as date
 
-unfoldable pub number : ℕ → List ℕ
-number n = (32 ∷ []) ++ padded 1 n
+unfoldable pub numberShown : ℕ → List ℕ
+numberShown n = (32 ∷ []) ++ padded 1 n
 
 unfoldable pub pressureShown : PressureAlt → List ℕ
 pressureShown h = (32 ∷ []) ++ pressureText 1 h
@@ -35,11 +35,11 @@ unfoldable pub byteShown : ℕ → List ℕ
 byteShown b = (32 ∷ []) ++ (b ∷ [])
 
 -- START+LEN, counted from the line's start.
-unfoldable pub partText : Part → List ℕ
-partText p = padded 1 (p .start) ++ ((43 ∷ []) ++ padded 1 (p .len))
+unfoldable pub placeText : Part → List ℕ
+placeText p = padded 1 (p .start) ++ ((43 ∷ []) ++ padded 1 (p .len))
 
 unfoldable pub partShown : Part → List ℕ
-partShown p = (32 ∷ []) ++ partText p
+partShown p = (32 ∷ []) ++ placeText p
 
 -- `-` for none.
 unfoldable pub maybeShown : MaybePart → List ℕ
@@ -47,19 +47,19 @@ maybeShown maybe.Missing = byteShown 45
 maybeShown (maybe.At p) = partShown p
 
 -- Numbers parted by a mark.
-unfoldable pub two : ℕ → ℕ → ℕ → List ℕ
-two mark b c = (mark ∷ []) ++ (padded 1 b ++ ((mark ∷ []) ++ padded 1 c))
+unfoldable pub twoMarked : ℕ → ℕ → ℕ → List ℕ
+twoMarked mark b c = (mark ∷ []) ++ (padded 1 b ++ ((mark ∷ []) ++ padded 1 c))
 
-unfoldable pub three : ℕ → ℕ → ℕ → ℕ → List ℕ
-three mark a b c = number a ++ two mark b c
+unfoldable pub threeShown : ℕ → ℕ → ℕ → ℕ → List ℕ
+threeShown mark a b c = numberShown a ++ twoMarked mark b c
 
 -- H:M:S.
 unfoldable pub timeShown : Time → List ℕ
-timeShown t = three 58 (t .hours) (t .minutes) (t .seconds)
+timeShown t = threeShown 58 (t .hours) (t .minutes) (t .seconds)
 
 -- D/M/Y.
 unfoldable pub dateShown : Date → List ℕ
-dateShown d = three 47 (d .day) (d .month) (d .year)
+dateShown d = threeShown 47 (d .day) (d .month) (d .year)
 
 unfoldable pub flightShown : MaybeDate → List ℕ
 flightShown date.Missing = byteShown 45
@@ -67,7 +67,7 @@ flightShown (date.On d) = dateShown d
 
 -- Degrees, thousandths and letter.
 unfoldable pub coordShown : RawCoord → List ℕ
-coordShown c = number (c .degrees) ++ (number (c .«minute_thousandths») ++ byteShown (letterOf (c .sign)))
+coordShown c = numberShown (c .degrees) ++ (numberShown (c .«minute_thousandths») ++ byteShown (compassLetter (c .sign)))
 
 -- Latitude's, then longitude's.
 unfoldable pub positionShown : RawPosition → List ℕ

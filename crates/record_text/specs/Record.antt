@@ -8,7 +8,7 @@ use Rattle.table.specs.Table.{defsOf}
 use Rattle.extension.specs.declared.Extension.{Extension}
 use Rattle.table.specs.declared.Table.{Table}
 use Rattle.a_record.specs.declared.ARecord.{ARecord}
-use Rattle.b_record.specs.BRecord.{fixLetter}
+use Rattle.b_record.specs.BRecord.{validLetter}
 use Rattle.b_record.specs.declared.BRecord.{BRecord}
 use Rattle.c_record.specs.declared.CRecordDeclaration.{CRecordDeclaration}
 use Rattle.c_record.specs.declared.CRecordTurnpoint.{CRecordTurnpoint}
@@ -18,7 +18,7 @@ use Rattle.records.specs.declared.Record.{Record}
 use Rattle.records.specs.declared.Record.the-variants as rec
 use Rattle.held.specs.declared.Held.{Held}
 use Rattle.log.specs.Fold.{texts}
-use Rattle.record_text.specs.Piece.{number, pressureShown, gpsShown, byteShown, partShown, maybeShown, timeShown, dateShown}
+use Rattle.record_text.specs.Piece.{numberShown, pressureShown, gpsShown, byteShown, partShown, maybeShown, timeShown, dateShown}
 use Rattle.record_text.specs.Piece.{flightShown, positionShown, letterShown, tripleShown}
 use Rattle.record_text.specs.Value.{askedFor, valueShown}
 
@@ -29,7 +29,7 @@ aShown r = letterShown (maker.letterOf (r .manufacturer)) ++ (tripleShown (maker
 -- A or V, pressure height, GPS height, rest.
 unfoldable pub fixShown : BRecord → List ℕ
 fixShown r =
-    byteShown (fixLetter (r .«fix_valid»))
+    byteShown (validLetter (r .«fix_valid»))
     ++ (pressureShown (r .«pressure_alt») ++ (gpsShown (r .«gps_alt») ++ partShown (r .rest)))
 
 -- Time, latitude and longitude, the fix, and the values of the names asked for.
@@ -39,7 +39,7 @@ bShown r h names s =
 
 -- Task, count, name.
 unfoldable pub taskShown : CRecordDeclaration → List ℕ
-taskShown r = number (r .«task_id») ++ ((32 ∷ []) ++ (signed 1 (r .«turnpoint_count») ++ maybeShown (r .«task_name»)))
+taskShown r = numberShown (r .«task_id») ++ ((32 ∷ []) ++ (signed 1 (r .«turnpoint_count») ++ maybeShown (r .«task_name»)))
 
 -- Date, time, flight date, and these.
 unfoldable pub declarationShown : CRecordDeclaration → List ℕ
@@ -55,11 +55,11 @@ hShown r = byteShown (sourceByte (r .«data_source»)) ++ (partShown (r .mnemoni
 
 -- START-ENDNAME.
 unfoldable pub definitionShown : Extension → List ℕ
-definitionShown e = number (e .«start_byte») ++ ((45 ∷ []) ++ (padded 1 (e .«end_byte») ++ mnemonicText (e .mnemonic)))
+definitionShown e = numberShown (e .«start_byte») ++ ((45 ∷ []) ++ (padded 1 (e .«end_byte») ++ mnemonicText (e .mnemonic)))
 
 -- Count, then each definition.
 unfoldable pub tableShown : Table → List ℕ
-tableShown t = number (t .count) ++ texts definitionShown (defsOf t)
+tableShown t = numberShown (t .count) ++ texts definitionShown (defsOf t)
 
 -- The fields of a record of the line s; t is that line's own table, h what is in force at it.
 unfoldable pub recordShown : Record → Table → Held → List ℕ → List ℕ → List ℕ

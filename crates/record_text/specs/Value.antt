@@ -11,11 +11,11 @@ use Rattle.table.specs.Table.{defsOf}
 use Rattle.extension.specs.declared.Extension.{Extension}
 use Rattle.held.specs.Held.{isSet, lookUp}
 use Rattle.held.specs.declared.Held.{Held}
-use Rattle.record_text.specs.Piece.{partText}
+use Rattle.record_text.specs.Piece.{placeText}
 
 -- The answer 0 with `@` and the value's place behind it, or the refusal's number.
 unfoldable pub foundText : Res Part → List ℕ
-foundText (ok p) = (48 ∷ []) ++ ((64 ∷ []) ++ partText p)
+foundText (ok p) = (48 ∷ []) ++ ((64 ∷ []) ++ placeText p)
 foundText (no n) = padded 1 (numberOf n)
 
 -- NAME=ANSWER, by lookup by name on a line with 35 fixed columns and this rest.

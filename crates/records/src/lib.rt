@@ -152,17 +152,17 @@ impl Record {
 
     // Its text as a piece of a larger one, from a place on: bytes that are too short cut it, and a part outside the
     // line is left out. `print` is the printer.
-    pub fn put_piece(self, table: Table, line: &[u8], buf: &mut [u8], at: usize) -> usize
+    pub fn put_piece(self, buf: &mut [u8], at: usize, table: Table, line: &[u8]) -> usize
         ensures { λ r. ⌜ Wrote (now (buf .entry)) at (recordPiece self table (now (line .entry))) (now (buf .exit)) r ⌝ }
     {
         match self {
-            Record::A(a) => a.put_piece(line, buf, at),
-            Record::B(b) => b.put_piece(line, buf, at),
-            Record::CDeclaration(task) => task.put_piece(line, buf, at),
-            Record::CTurnpoint(point) => point.put_piece(line, buf, at),
-            Record::H(h) => h.put_piece(line, buf, at),
-            Record::I => table.put_piece(b'I', buf, at),
-            Record::J => table.put_piece(b'J', buf, at),
+            Record::A(a) => a.put_piece(buf, at, line),
+            Record::B(b) => b.put_piece(buf, at, line),
+            Record::CDeclaration(task) => task.put_piece(buf, at, line),
+            Record::CTurnpoint(point) => point.put_piece(buf, at, line),
+            Record::H(h) => h.put_piece(buf, at, line),
+            Record::I => table.put_piece(buf, at, b'I'),
+            Record::J => table.put_piece(buf, at, b'J'),
             Record::NotTaken(part) => put_part(buf, at, line, part),
             Record::Unrecognised(other) => put_part(buf, at, line, other),
         }

@@ -83,7 +83,7 @@ fn write_lines(
 
 // What closes the text.
 fn write_closing(product: Product, c: Carried, to: i32, out: &mut [u8]) -> Outcome {
-    let end = put_closing(product, c, out, 0);
+    let end = put_closing(out, 0, product, c);
     if out.len() < end {
         return Outcome::NoRoom(c.walk.at.number);
     }

@@ -151,12 +151,12 @@ impl Table {
     }
 
     // The text as a piece of a larger one, from a place on; bytes that are too short cut it.
-    pub fn put_piece(self, letter: u8, buf: &mut [u8], at: usize) -> usize
+    pub fn put_piece(self, buf: &mut [u8], at: usize, letter: u8) -> usize
         ensures { λ r. ⌜ Wrote (now (buf .entry)) at (tableBody letter self) (now (buf .exit)) r ⌝ }
     {
-        let count = put_byte(buf, at, letter);
-        let first = put_nat(buf, count, self.count as u64, 2);
-        self.put_defs(buf, first)
+        let at_count = put_byte(buf, at, letter);
+        let at_first = put_nat(buf, at_count, self.count as u64, 2);
+        self.put_defs(buf, at_first)
     }
 
     pub fn print(self, letter: u8, buf: &mut [u8]) -> Printed
@@ -165,9 +165,9 @@ impl Table {
         if 99 < self.count {
             return Printed::Refused(Refusal::BadExtension);
         }
-        if buf.len() < self.put_piece(letter, &mut [], 0) {
+        if buf.len() < self.put_piece(&mut [], 0, letter) {
             return Printed::Refused(Refusal::NoRoom);
         }
-        Printed::Written(self.put_piece(letter, buf, 0))
+        Printed::Written(self.put_piece(buf, 0, letter))
     }
 }

@@ -71,8 +71,8 @@ module _ {T : Type 0} {step : T → Line-read → T} {c₀ : Carried Held T} {s 
   unfolding gotAt
   text-turn f = let k = cut-here in rw (k .0, k .1) (rw e (log.text-next r i f))
 
-  pub nearer : length s - g .next < length s - at
-  nearer = log.nearer r i (cut-of at s e)
+  pub less-left : length s - g .next < length s - at
+  less-left = log.nearer r i (cut-of at s e)
 
 -- ---- a product of a whole log that looks at no line's number and at no table
 
@@ -103,7 +103,7 @@ module _ {T : Type 0} {step : T → Line-read → T} where
       line k = record { number = _; held = _; reached = turn i (m .reached) e (omega arith) refl (k _ _) }
 
       pub near : length s - g .next < length s - at
-      near = nearer i (m .reached) e
+      near = less-left i (m .reached) e
 
 pub one-at-most : (t : Bool) → pick t 1 0 ≤ 1
 unfolding pick
@@ -117,11 +117,11 @@ module _ {T : Type 0} (f : Line-read → Option T) {s : List ℕ} {at : ℕ} whe
   not-found i m = log.not-found f (m .reached) i refl
 
   module _ {g : Got} (i : at < length s) (m : Made (keep f) none s at none) (e : g ≡ gotAt at s) where
-    pub pass : ((n : ℕ) (h : Held) → none ≡ f (gotRead g s n at h)) → Made (keep f) none s (g .next) none
+    pub keep-passes : ((n : ℕ) (h : Held) → none ≡ f (gotRead g s n at h)) → Made (keep f) none s (g .next) none
     unfolding keep orElse
-    pass k = line i m e k
+    keep-passes k = line i m e k
 
-    pub found : {b : T} → ((n : ℕ) (h : Held) → some b ≡ f (gotRead g s n at h)) →
+    pub keep-finds : {b : T} → ((n : ℕ) (h : Held) → some b ≡ f (gotRead g s n at h)) →
         some b ≡ firstWith f (readings reader s)
     unfolding keep orElse
-    found k = log.found f (line i m e k .reached) refl
+    keep-finds k = log.found f (line i m e k .reached) refl

@@ -1,7 +1,7 @@
 use borrow.Author.Needs.{needs}
 use mathlib.Core.Path.{_≡_, sym, _∙_}
 use native.Mathlib.Omega.{arith}
-use Rattle.put.proofs.Writing.{nothing}
+use Rattle.put.proofs.Writing.{wrote-nothing}
 use Rattle.manufacturer.specs.Maker.{tripleOf}
 use Rattle.manufacturer.specs.declared.MaybeTriple.the-variants.{Missing, Triple}
 use Rattle.a_record.specs.ARecord.{tripleText}
@@ -25,4 +25,4 @@ put-triple-spec =
     (search needs)
     (search needs)
     (λ c. rw (three (search needs)) (search needs))
-    (λ c. rw (none c) (nothing _ _ (omega arith) (omega arith))))
+    (λ c. rw (none c) (wrote-nothing _ _ (omega arith) (omega arith))))

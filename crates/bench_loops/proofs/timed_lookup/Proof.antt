@@ -6,7 +6,7 @@ use lib.ListN.{length}
 use Rattle.log.specs.Fold.{fresh}
 use Rattle.log.proofs.Reached.{Reached, at-start, product}
 use Rattle.walk.specs.Readings.{reader}
-use Rattle.walk.proofs.Turns.{turn, nearer}
+use Rattle.walk.proofs.Turns.{turn, less-left}
 use Rattle.bench_loops.specs.Timed.{plus, lookUpStep, lookUpSum}
 use Rattle.bench_loops.proofs.timed_lookup.Statement.{statement}
 use Rattle.bench_loops.proofs.timed_lookup.Tie as tie
@@ -23,7 +23,7 @@ loop-less : tie.Need-loop-less Inv-loop μ-loop
 loop-less c =
     let read = c .before .before .before .before .before .before .before .before in
     let test = read .before in
-    nearer (test .loop-test .taken) (test .before .loop .inv .1) (read .read-at .ensures)
+    less-left (test .loop-test .taken) (test .before .loop .inv .1) (read .read-at .ensures)
 
 loop-again : tie.Need-loop-again Inv-loop μ-loop
 unfolding lookUpStep plus

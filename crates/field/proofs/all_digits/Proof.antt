@@ -12,7 +12,7 @@ use Rattle.field.proofs.all_digits.Tie as tie
 
 every-digit : Every isDigit allDigits
 unfolding allDigits
-every-digit = record { none = refl; more = λ b s. refl }
+every-digit = record { all-nil = refl; all-cons = λ b s. refl }
 
 -- what is seen and what is left, from here, are the whole
 abbrev Inv-loop : tie.InvT-loop

@@ -5,7 +5,7 @@ use borrow.Author.Tests.{not-true, not-false}
 use lib.ListN.{length, drop}
 use Rattle.text.proofs.Steps.{fails, holds}
 use Rattle.field.specs.Field.{isAscii}
-use Rattle.field.proofs.Ascii.{eight}
+use Rattle.field.proofs.Ascii.{eight-bytes-on}
 use Rattle.field.proofs.is_ascii.Statement.{statement}
 use Rattle.field.proofs.is_ascii.Tie as tie
 
@@ -19,12 +19,12 @@ abbrev μ-loop : tie.MeasureT-loop
 returns : tie.Need-returns Inv-loop μ-loop
 returns c =
     let t : tie.At-loop Inv-loop μ-loop = search needs in
-    sym (fails _ (not-true _ (c .if1 .taken))) ∙ eight _ (t .loop .i) (search needs) (t .loop .inv .1) (c .before .low8 .ensures)
+    sym (fails _ (not-true _ (c .if1 .taken))) ∙ eight-bytes-on _ (t .loop .i) (search needs) (t .loop .inv .1) (c .before .low8 .ensures)
 
 loop-again : tie.Need-loop-again Inv-loop μ-loop
 loop-again c =
     let t : tie.At-loop Inv-loop μ-loop = search needs in
-    (search needs, sym (holds (not-false _ (c .if1 .left)) refl) ∙ eight _ (t .loop .i) (search needs) (t .loop .inv .1) (c .before .low8 .ensures))
+    (search needs, sym (holds (not-false _ (c .if1 .left)) refl) ∙ eight-bytes-on _ (t .loop .i) (search needs) (t .loop .inv .1) (c .before .low8 .ensures))
 
 ends : tie.Need-returns-2 Inv-loop μ-loop
 ends c = c .ascii-tail .ensures ∙ c .before .before .loop .inv .1

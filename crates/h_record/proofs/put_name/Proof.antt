@@ -3,7 +3,7 @@ use mathlib.Core.Path.{_≡_}
 use native.Mathlib.Omega.{arith}
 use Rattle.part.specs.Part.{findMaybe}
 use Rattle.part.specs.declared.MaybePart.the-variants.{At}
-use Rattle.put.proofs.Writing.{then, nothing}
+use Rattle.put.proofs.Writing.{then, wrote-nothing}
 use Rattle.h_record.specs.HRecord.{nameText}
 use Rattle.h_record.proofs.put_name.Statement.{statement}
 use Rattle.h_record.proofs.put_name.Tie as tie
@@ -20,6 +20,6 @@ put-name-spec =
     (search needs)
     (search needs)
     (search needs)
-    (λ c. rw (c .enum-told .given .1) (nothing _ _ (omega arith) (omega arith)))
+    (λ c. rw (c .enum-told .given .1) (wrote-nothing _ _ (omega arith) (omega arith)))
     (search needs)
     (λ c. rw (there (search needs)) (search (then))))

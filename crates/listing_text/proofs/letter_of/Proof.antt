@@ -4,12 +4,12 @@ use native.Mathlib.Omega.{arith}
 use lib.ListN.{List·getD-eq-default}
 use denote.Ref.{now}
 use Rattle.text.proofs.Steps.{first, second, yes≤, no≤, and, holds, fails}
-use Rattle.listing_text.specs.Line.{letterOf}
+use Rattle.listing_text.specs.Line.{firstLetter}
 use Rattle.listing_text.proofs.letter_of.Statement.{statement}
 use Rattle.listing_text.proofs.letter_of.Tie as tie
 
 pub letter-of-spec : {M : Type 1} → statement M
-unfolding letterOf
+unfolding firstLetter
 letter-of-spec =
     tie.close
     (tie.spec

@@ -9,8 +9,8 @@ unfolding listingLine
 returns c =
     let lf = c .before .before in
     let heights = lf .before .before .before .before in
-    let fix = heights .before .before in
-    let head = fix .before .before .before in
+    let fix = heights .before in
+    let head = fix .before .before .before .before in
     then (head .put-head .ensures) (then (rw (fix .fix .ensures) at (heights .put-heights .ensures)) (lf .put-byte .ensures))
 
 pub put-line-spec : {M : Type 1} → statement M

@@ -5,7 +5,7 @@ use mathlib.Core.Bool.{true}
 use lib.ListN.{length}
 use Rattle.text.specs.Word.{largest}
 use Rattle.products.specs.Feed.{fresh}
-use Rattle.files.proofs.Filling.{within}
+use Rattle.files.proofs.Filling.{ended-inside}
 use Rattle.stream.specs.Stream.{Goes}
 use Rattle.stream.proofs.Streaming.{goes-nowhere, goes-last-of, goes-more, goes-on, goes-turned}
 use Rattle.stream.proofs.run.Statement.{statement}
@@ -47,7 +47,7 @@ run-spec =
     (λ c. (rw (c .new .ensures) goes-nowhere, refl, refl))
     (search needs)
     (search needs)
-    (λ c κs. let read = c .before .before .before .before in within (read .read-on .result) (read .read-on .ensures))
+    (λ c κs. let read = c .before .before .before .before in ended-inside (read .read-on .result) (read .read-on .ensures))
     (search needs)
     (search needs)
     (λ c. goes-last-of (turned (c .before .before .before .before .before .before .before)))

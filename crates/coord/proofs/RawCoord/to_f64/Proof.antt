@@ -1,12 +1,12 @@
 use borrow.Author.Needs.{needs}
 use lib.Ieee.{binary64}
-use Rattle.coord.specs.Degrees.{signed}
+use Rattle.coord.specs.Degrees.{bySign}
 use Rattle.coord.proofs.Floats.{by-sign}
 use Rattle.coord.proofs.RawCoord.to_f64.Statement.{statement}
 use Rattle.coord.proofs.RawCoord.to_f64.Tie as tie
 
 pub to-f64-spec : {M : Type 1} → statement M
-unfolding signed
+unfolding bySign
 to-f64-spec =
     tie.close
     (tie.spec

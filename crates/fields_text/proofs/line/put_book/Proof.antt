@@ -5,7 +5,7 @@ use mathlib.Core.List.{[]}
 use native.Mathlib.Omega.{arith}
 use Rattle.text.specs.Res.{_=?_}
 use Rattle.text.proofs.Steps.{first, second, yes=, no=}
-use Rattle.put.proofs.Writing.{nothing}
+use Rattle.put.proofs.Writing.{wrote-nothing}
 use Rattle.records.specs.Record.{acceptedAs}
 use Rattle.record_text.specs.Piece.{byteShown}
 use Rattle.fields_text.specs.Line.{bookShown}
@@ -33,11 +33,11 @@ put-book-spec =
     tie.close
     (tie.spec
     (search needs)
-    (λ c. rw (← unread c) (nothing _ _ (omega arith) (omega arith)))
+    (λ c. rw (← unread c) (wrote-nothing _ _ (omega arith) (omega arith)))
     (search needs)
     (search needs)
     (search needs)
-    (λ c. rw (← yes (c .before .before .before .before)) (c .before .before .put-raw .ensures))
+    (λ c. rw (← yes (c .before .before .before .before)) (c .before .before .show-byte .ensures))
     (search needs)
     (search needs)
-    (λ c. rw (← no (c .before .before .before .before)) (c .before .before .put-raw2 .ensures)))
+    (λ c. rw (← no (c .before .before .before .before)) (c .before .before .show-byte2 .ensures)))

@@ -1,7 +1,7 @@
 use borrow.Author.Needs.{needs}
 use mathlib.Core.Path.{refl}
 use Rattle.manufacturer.specs.Maker.{tripleOf, spelt}
-use Rattle.manufacturer.proofs.Arms.{at}
+use Rattle.manufacturer.proofs.Arms.{in-arm}
 use Rattle.manufacturer.proofs.Manufacturer.to_triple_char.Statement.{statement}
 use Rattle.manufacturer.proofs.Manufacturer.to_triple_char.Tie as tie
 
@@ -14,9 +14,9 @@ to-triple-char-spec =
     (search needs) (search needs) (search needs) (search needs) (search needs) (search needs) (search needs) (search needs)
     (search needs) (search needs) (search needs) (search needs) (search needs) (search needs) (search needs) (search needs)
     (search needs)
-    (λ c. search (at tripleOf)) (λ c. search (at tripleOf)) (λ c. search (at tripleOf)) (λ c. search (at tripleOf)) (λ c. search (at tripleOf))
-    (λ c. search (at tripleOf)) (λ c. search (at tripleOf)) (λ c. search (at tripleOf)) (λ c. search (at tripleOf)) (λ c. search (at tripleOf))
-    (λ c. search (at tripleOf)) (λ c. search (at tripleOf)) (λ c. search (at tripleOf)) (λ c. search (at tripleOf)) (λ c. search (at tripleOf))
-    (λ c. search (at tripleOf)) (λ c. search (at tripleOf)) (λ c. search (at tripleOf)) (λ c. search (at tripleOf)) (λ c. search (at tripleOf))
-    (λ c. search (at tripleOf)) (λ c. search (at tripleOf)) (λ c. search (at tripleOf)) (λ c. search (at tripleOf))
-    (λ c. at tripleOf (c .before .self .given .1) refl))
+    (λ c. search (in-arm tripleOf)) (λ c. search (in-arm tripleOf)) (λ c. search (in-arm tripleOf)) (λ c. search (in-arm tripleOf)) (λ c. search (in-arm tripleOf))
+    (λ c. search (in-arm tripleOf)) (λ c. search (in-arm tripleOf)) (λ c. search (in-arm tripleOf)) (λ c. search (in-arm tripleOf)) (λ c. search (in-arm tripleOf))
+    (λ c. search (in-arm tripleOf)) (λ c. search (in-arm tripleOf)) (λ c. search (in-arm tripleOf)) (λ c. search (in-arm tripleOf)) (λ c. search (in-arm tripleOf))
+    (λ c. search (in-arm tripleOf)) (λ c. search (in-arm tripleOf)) (λ c. search (in-arm tripleOf)) (λ c. search (in-arm tripleOf)) (λ c. search (in-arm tripleOf))
+    (λ c. search (in-arm tripleOf)) (λ c. search (in-arm tripleOf)) (λ c. search (in-arm tripleOf)) (λ c. search (in-arm tripleOf))
+    (λ c. in-arm tripleOf (c .before .self .given .1) refl))

@@ -5,7 +5,7 @@ use native.Mathlib.Omega.{arith}
 use lib.ListN.{replicate, length-replicate, replicate-append-replicate}
 use borrow.Author.Needs.{needs}
 use Rattle.put.specs.Put.{Wrote}
-use Rattle.put.proofs.Writing.{then, kept, nothing, past}
+use Rattle.put.proofs.Writing.{then, wrote-length, wrote-nothing, wrote-past}
 use Rattle.print.proofs.number.put_zeros.Statement.{statement}
 use Rattle.print.proofs.number.put_zeros.Tie as tie
 
@@ -21,13 +21,13 @@ zeros-then : {b b′ b″ : List ℕ} {i a e : ℕ} (j m k : ℕ) → j + m ≡ 
 zeros-then j m k e p q = rw (replicate-append-replicate {A = ℕ} j m 48, e) at (then p q)
 
 loop-holds : tie.Need-loop-holds Inv-loop μ-loop
-loop-holds c = (omega arith, nothing _ _ (omega arith) (omega arith))
+loop-holds c = (omega arith, wrote-nothing _ _ (omega arith) (omega arith))
 
 full : tie.Need-returns Inv-loop μ-loop
 full c =
     let l = c .before .before .before .loop in
     let k = c .before .before .before .before .before .args .k in
-    zeros-then (l .j) (k - l .j) k (omega arith) (l .inv .1) (past _ (search needs) (omega (arith, kept (l .inv .1), l .inv .1 .short)) (rw length-replicate (search needs)))
+    zeros-then (l .j) (k - l .j) k (omega arith) (l .inv .1) (wrote-past _ (search needs) (omega (arith, wrote-length (l .inv .1), l .inv .1 .short)) (rw length-replicate (search needs)))
 
 loop-again : tie.Need-loop-again Inv-loop μ-loop
 loop-again c =
@@ -46,11 +46,11 @@ put-zeros-spec =
     loop-holds
     (search needs)
     (search needs)
-    (λ c. kept (c .before .before .before .loop .inv .1))
+    (λ c. wrote-length (c .before .before .before .loop .inv .1))
     full
     (search needs)
     (search needs)
     (search needs)
     loop-again
-    (λ c. kept (c .before .loop .inv .1))
+    (λ c. wrote-length (c .before .loop .inv .1))
     ends)
