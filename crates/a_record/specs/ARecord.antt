@@ -64,7 +64,7 @@ tripleText (Triple t) = mnemonicText t
 
 -- The letter, the triple, id and rest.
 unfoldable pub aBody : ARecord → List ℕ → List ℕ → List ℕ
-aBody r id rest = (65 ∷ []) ++ (tripleText (tripleOf (r .manufacturer)) ++ (id ++ rest))
+aBody r id rest = (code "A" ∷ []) ++ (tripleText (tripleOf (r .manufacturer)) ++ (id ++ rest))
 
 -- The text of a record beside its line; 9 where a part lies outside.
 unfoldable pub aText : ARecord → List ℕ → Res (List ℕ)

@@ -1,4 +1,5 @@
 -- B lines: fixes.
+use Prim.Native.Char.{code}
 use Prim.Native.Nat.{ℕ}
 use mathlib.Core.List.{List, [], _∷_, _++_}
 use mathlib.Core.Bool.{Bool}
@@ -26,8 +27,8 @@ use Rattle.b_record.specs.declared.BRead.the-variants as b
 
 -- A, V.
 unfoldable pub validLetter : FixValid → ℕ
-validLetter Valid = 65
-validLetter NavWarning = 86
+validLetter Valid = code "A"
+validLetter NavWarning = code "V"
 
 -- A or V by its letter; 1 else.
 unfoldable pub validOf : ℕ → Res FixValid
@@ -74,7 +75,7 @@ tailText r rest =
 
 -- The letter, time, position, and these.
 unfoldable pub bBody : BRecord → List ℕ → List ℕ
-bBody r rest = (66 ∷ []) ++ (timeText (r .timestamp) ++ (positionText (r .pos) ++ tailText r rest))
+bBody r rest = (code "B" ∷ []) ++ (timeText (r .timestamp) ++ (positionText (r .pos) ++ tailText r rest))
 
 -- The text of a record beside its line; 9 where the rest lies outside.
 unfoldable pub bText : BRecord → List ℕ → Res (List ℕ)

@@ -3,7 +3,7 @@ use Prim.Native.Nat.{ℕ}
 use Prim.Native.Char.{code}
 use mathlib.Core.List.{List, [], _∷_, _++_}
 use mathlib.Core.Bool.{Bool, true}
-use lib.ListN.{length}
+use lib.ListN.{length, replicate}
 use Rattle.text.specs.Res.{Res, ok, no, bind, guard, pick, _≤?_, _=?_, _∧?_, _∨?_}
 use Rattle.text.specs.Line.{byte, cut, columns}
 use Rattle.part.specs.Part.{nameFrom, maybeText}
@@ -29,7 +29,7 @@ use Rattle.c_record.specs.declared.TurnpointRead.the-variants as turnpoi
 
 -- N or S at column 8 makes a turnpoint.
 unfoldable pub turns : List ℕ → Bool
-turns s = (byte 8 s =? 78) ∨? (byte 8 s =? 83)
+turns s = (byte 8 s =? code "N") ∨? (byte 8 s =? code "S")
 
 -- ---- declarations
 
@@ -64,7 +64,7 @@ readDeclaration s =
     }))))))))
 
 unfoldable pub flightText : MaybeDate → List ℕ
-flightText Missing = 48 ∷ 48 ∷ 48 ∷ 48 ∷ 48 ∷ 48 ∷ []
+flightText Missing = replicate 6 (code "0")
 flightText (On d) = dateText d
 
 -- Flight date, task in width 4, count in 2, name.
@@ -73,7 +73,7 @@ taskText r name = flightText (r .«flight_date») ++ (padded 4 (r .«task_id») 
 
 -- The letter, date, time, and these.
 unfoldable pub declarationBody : CRecordDeclaration → List ℕ → List ℕ
-declarationBody r name = (67 ∷ []) ++ (dateText (r .date) ++ (timeText (r .time) ++ taskText r name))
+declarationBody r name = (code "C" ∷ []) ++ (dateText (r .date) ++ (timeText (r .time) ++ taskText r name))
 
 -- The text of a declaration beside its line; 9 where the name lies outside.
 unfoldable pub declarationText : CRecordDeclaration → List ℕ → Res (List ℕ)
@@ -100,7 +100,7 @@ readTurnpoint s =
 
 -- The letter, the position, the name.
 unfoldable pub turnpointBody : CRecordTurnpoint → List ℕ → List ℕ
-turnpointBody r name = (67 ∷ []) ++ (positionText (r .position) ++ name)
+turnpointBody r name = (code "C" ∷ []) ++ (positionText (r .position) ++ name)
 
 unfoldable pub turnpointText : CRecordTurnpoint → List ℕ → Res (List ℕ)
 turnpointText r s = bind (maybeText (r .«turnpoint_name») s) (λ name. ok (turnpointBody r name))

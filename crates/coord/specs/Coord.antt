@@ -1,4 +1,5 @@
 -- Coordinates, and a position: latitude first.
+use Prim.Native.Char.{code}
 use Prim.Native.Nat.{ℕ, _+_}
 use mathlib.Core.List.{List, [], _∷_, _++_}
 use mathlib.Core.Bool.{Bool}
@@ -26,10 +27,10 @@ use Rattle.coord.specs.declared.position.PositionRead.the-variants as po
 
 -- N, S, E, W.
 unfoldable pub compassLetter : Compass → ℕ
-compassLetter North = 78
-compassLetter South = 83
-compassLetter East = 69
-compassLetter West = 87
+compassLetter North = code "N"
+compassLetter South = code "S"
+compassLetter East = code "E"
+compassLetter West = code "W"
 
 -- x or y by its letter; 1 else.
 unfoldable pub signOf : Compass → Compass → ℕ → Res Compass

@@ -18,9 +18,9 @@ use Rattle.h_record.specs.declared.HRead.the-variants as h
 
 -- The byte of a source.
 unfoldable pub sourceByte : DataSource → ℕ
-sourceByte FVU = 70
-sourceByte OfficialObserver = 79
-sourceByte Pilot = 80
+sourceByte FVU = code "F"
+sourceByte OfficialObserver = code "O"
+sourceByte Pilot = code "P"
 sourceByte (Unrecognized b) = b
 
 -- The source of a byte.
@@ -34,7 +34,7 @@ sourceOf b =
 -- The place of the first colon, or the length where there is none.
 unfoldable pub colonIn : List ℕ → ℕ
 colonIn [] = 0
-colonIn (b ∷ s) = pick (b =? 58) 0 (suc (colonIn s))
+colonIn (b ∷ s) = pick (b =? code ":") 0 (suc (colonIn s))
 
 -- A first colon from column 5 on, at c, parts name and data; with none there is no name.
 unfoldable pub named : List ℕ → ℕ → HRecord
@@ -58,7 +58,7 @@ charText b = pick (b ≤? 127) (b ∷ []) (((192 + b / 64) ∷ []) ++ ((128 + b 
 -- A name with its colon; nothing where there is no name.
 unfoldable pub nameText : MaybePart → List ℕ → List ℕ
 nameText maybe.Missing t = []
-nameText (maybe.At p) t = t ++ (58 ∷ [])
+nameText (maybe.At p) t = t ++ (code ":" ∷ [])
 
 -- The name with its colon, and the data.
 unfoldable pub dataText : HRecord → List ℕ → List ℕ → List ℕ
@@ -66,7 +66,7 @@ dataText r n d = nameText (r .«friendly_name») n ++ d
 
 -- The letter, source, mnemonic, name and data.
 unfoldable pub hBody : HRecord → List ℕ → List ℕ → List ℕ → List ℕ
-hBody r m n d = (72 ∷ []) ++ (charText (sourceByte (r .«data_source»)) ++ (m ++ dataText r n d))
+hBody r m n d = (code "H" ∷ []) ++ (charText (sourceByte (r .«data_source»)) ++ (m ++ dataText r n d))
 
 -- The text of a record beside its line; 9 where a part lies outside.
 unfoldable pub hText : HRecord → List ℕ → Res (List ℕ)

@@ -1,4 +1,5 @@
 -- The text of the paper's program.
+use Rattle.text.specs.Line.{LF}
 use Prim.Native.Nat.{ℕ, _≤_}
 use Prim.Native.Char.{code}
 use mathlib.Core.List.{List, [], _∷_}
@@ -9,7 +10,7 @@ use Rattle.listing_text.specs.Listing.{listingText}
 -- `too long`, closed by LF.
 unfoldable pub tooLong : List ℕ
 tooLong =
-    code "t" ∷ code "o" ∷ code "o" ∷ code " " ∷ code "l" ∷ code "o" ∷ code "n" ∷ code "g" ∷ 10 ∷ []
+    code "t" ∷ code "o" ∷ code "o" ∷ code " " ∷ code "l" ∷ code "o" ∷ code "n" ∷ code "g" ∷ LF ∷ []
 
 -- The listing of a log of at most 65,536 bytes; of a longer one that it is too long.
 unfoldable pub paperText : List ℕ → List ℕ

@@ -1,4 +1,5 @@
 -- A line read and printed comes back, exactly where it is not odd: said through the contracts, so of what the programs do.
+use Prim.Native.Char.{code}
 use Prim.Native.Nat.{ℕ, _≤_, _<_}
 use mathlib.Core.Path.{_≡_}
 use mathlib.Core.Bool.{true, false}
@@ -37,7 +38,7 @@ pub record Reprints (s : List ℕ) (m : Res (List ℕ)) : Type 0 where
   -- An odd line never does.
   pub odd : lineOdd s ≡ true → m ≡ ok s → ⊥
   -- H lines always come back.
-  pub headers : byte 0 s ≡ 72 → Back s m
+  pub headers : byte 0 s ≡ code "H" → Back s m
 
 -- `Record::print` prints `recordText` of the record, its table and its line.
 abbrev pub ComesBack : Type 0

@@ -1,4 +1,5 @@
 -- Demand 3, for this reader, its fresh walks and its lookups by name.
+use Prim.Native.Char.{code}
 use Prim.Native.Nat.{ℕ, _+_}
 use mathlib.Core.Path.{_≡_}
 use mathlib.Core.Bool.{Bool, true, not}
@@ -34,12 +35,12 @@ ValuesStay stay [] [] = Unit
 ValuesStay stay [] (y ∷ ys) = ⊥
 ValuesStay stay (x ∷ xs) [] = ⊥
 ValuesStay stay (x ∷ xs) (y ∷ ys) =
-    ((stay ∨? begins 73 (x .line)) ≡ true → SameValues x y) × ValuesStay (stay ∨? begins 73 (x .line)) xs ys
+    ((stay ∨? begins (code "I") (x .line)) ≡ true → SameValues x y) × ValuesStay (stay ∨? begins (code "I") (x .line)) xs ys
 
 -- None of these lines begins with I and is accepted.
 abbrev pub NoneAccepted : List (List ℕ) → Type 0
 NoneAccepted [] = Unit
-NoneAccepted (c ∷ cs) = (begins 73 (lineText c) ≡ true → (r : Record) → readLine (lineText c) ≡ ok r → ⊥) × NoneAccepted cs
+NoneAccepted (c ∷ cs) = (begins (code "I") (lineText c) ≡ true → (r : Record) → readLine (lineText c) ≡ ok r → ⊥) × NoneAccepted cs
 
 -- The readings of the lines after a run that stands behind the lines `pre`.
 abbrev pub afterRun : List ℕ → List ℕ → List ℕ → List Line-read

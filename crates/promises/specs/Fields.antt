@@ -1,4 +1,5 @@
 -- What the program `fields` shows as printed is what `Record::print` prints.
+use Rattle.text.specs.Line.{LF}
 use mathlib.Core.Path.{_≡_}
 use mathlib.Core.List.{List, _++_, [], _∷_}
 use Prim.Native.Nat.{ℕ}
@@ -23,7 +24,7 @@ fieldsAs (no n) printed h names s = []
 unfoldable pub lineAs : List ℕ → Line-read → List ℕ
 lineAs names x =
     headText (x .number) (x .line) (x .answer)
-    ++ (fieldsAs (x .answer) (reprinted (x .line)) (x .held) names (x .line) ++ (10 ∷ []))
+    ++ (fieldsAs (x .answer) (reprinted (x .line)) (x .held) names (x .line) ++ (LF ∷ []))
 
 pub record Shown : Type 0 where
   -- The piece of an accepted line's record is its text, as `Record::print` writes it.

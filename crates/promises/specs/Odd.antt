@@ -1,5 +1,6 @@
 -- The lines that print otherwise than they were written: an A line in letter form; a number written with `+`; a height
 -- `-0000`; a count `-0`. All of them are seen in the line's bytes.
+use Prim.Native.Char.{code}
 use Prim.Native.Nat.{ℕ, zero, suc, _+_, _-_, _/_}
 use mathlib.Core.Bool.{Bool, false}
 use mathlib.Core.List.{List}
@@ -58,8 +59,8 @@ tableOdd s = plus (cut 1 3 s) ∨? defsPlus ((length s - 3) / 7) (drop 3 s)
 -- A line, by its first byte. H lines, and lines that are not taken or not recognised, are never odd.
 unfoldable pub lineOdd : List ℕ → Bool
 lineOdd s =
-    pick (byte 0 s =? 65) (letterForm s)
-    (pick (byte 0 s =? 66) (fixOdd s)
-    (pick (byte 0 s =? 67) (pick (turns s) (turnpointOdd s) (declarationOdd s))
-    (pick ((byte 0 s =? 73) ∨? (byte 0 s =? 74)) (tableOdd s)
+    pick (byte 0 s =? code "A") (letterForm s)
+    (pick (byte 0 s =? code "B") (fixOdd s)
+    (pick (byte 0 s =? code "C") (pick (turns s) (turnpointOdd s) (declarationOdd s))
+    (pick ((byte 0 s =? code "I") ∨? (byte 0 s =? code "J")) (tableOdd s)
     false)))

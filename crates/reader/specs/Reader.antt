@@ -1,4 +1,5 @@
 -- A reader of a lent log, and what it shows at its place.
+use Prim.Native.Char.{code}
 use Prim.Native.Nat.{ℕ, zero, suc}
 use mathlib.Core.List.{List, [], _∷_}
 use denote.Ref.{RefT, now}
@@ -42,7 +43,7 @@ handedBy s h place (Line cut after) later =
       place = cut .line .start;
       line = textAt place s;
       answer = readLine (textAt place s);
-      held = heldAfter 73 h (textAt place s);
+      held = heldAfter (code "I") h (textAt place s);
     }
     ∷ later after
 
@@ -52,4 +53,4 @@ unfoldable pub handedOut : ℕ → LogReader → Held → List Line-read
 handedOut zero r h = []
 handedOut (suc k) r h =
     handedBy (now (r .log)) h (r .place) (nextOf (now (r .log)) (cursorOf r))
-    (λ after. handedOut k (readerAt (r .log) after) (heldAfter 73 h (textAt (r .place) (now (r .log)))))
+    (λ after. handedOut k (readerAt (r .log) after) (heldAfter (code "I") h (textAt (r .place) (now (r .log)))))

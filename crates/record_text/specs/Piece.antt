@@ -1,4 +1,5 @@
 -- Fields in plain decimal, each behind the one space that parts it from the field before.
+use Prim.Native.Char.{code}
 use Prim.Native.Nat.{ℕ}
 use mathlib.Core.List.{List, [], _∷_, _++_}
 use Rattle.text.specs.Number.{padded}
@@ -22,28 +23,28 @@ use Rattle.c_record.specs.declared.MaybeDate.{MaybeDate}
 use Rattle.c_record.specs.declared.MaybeDate.the-variants as date
 
 unfoldable pub numberShown : ℕ → List ℕ
-numberShown n = (32 ∷ []) ++ padded 1 n
+numberShown n = (code " " ∷ []) ++ padded 1 n
 
 unfoldable pub pressureShown : PressureAlt → List ℕ
-pressureShown h = (32 ∷ []) ++ pressureText 1 h
+pressureShown h = (code " " ∷ []) ++ pressureText 1 h
 
 unfoldable pub gpsShown : GpsAlt → List ℕ
-gpsShown h = (32 ∷ []) ++ gpsText 1 h
+gpsShown h = (code " " ∷ []) ++ gpsText 1 h
 
 -- A byte as it is.
 unfoldable pub byteShown : ℕ → List ℕ
-byteShown b = (32 ∷ []) ++ (b ∷ [])
+byteShown b = (code " " ∷ []) ++ (b ∷ [])
 
 -- START+LEN, counted from the line's start.
 unfoldable pub placeText : Part → List ℕ
-placeText p = padded 1 (p .start) ++ ((43 ∷ []) ++ padded 1 (p .len))
+placeText p = padded 1 (p .start) ++ ((code "+" ∷ []) ++ padded 1 (p .len))
 
 unfoldable pub partShown : Part → List ℕ
-partShown p = (32 ∷ []) ++ placeText p
+partShown p = (code " " ∷ []) ++ placeText p
 
 -- `-` for none.
 unfoldable pub maybeShown : MaybePart → List ℕ
-maybeShown maybe.Missing = byteShown 45
+maybeShown maybe.Missing = byteShown (code "-")
 maybeShown (maybe.At p) = partShown p
 
 -- Numbers parted by a mark.
@@ -55,14 +56,14 @@ threeShown mark a b c = numberShown a ++ twoMarked mark b c
 
 -- H:M:S.
 unfoldable pub timeShown : Time → List ℕ
-timeShown t = threeShown 58 (t .hours) (t .minutes) (t .seconds)
+timeShown t = threeShown (code ":") (t .hours) (t .minutes) (t .seconds)
 
 -- D/M/Y.
 unfoldable pub dateShown : Date → List ℕ
-dateShown d = threeShown 47 (d .day) (d .month) (d .year)
+dateShown d = threeShown (code "/") (d .day) (d .month) (d .year)
 
 unfoldable pub flightShown : MaybeDate → List ℕ
-flightShown date.Missing = byteShown 45
+flightShown date.Missing = byteShown (code "-")
 flightShown (date.On d) = dateShown d
 
 -- Degrees, thousandths and letter.
@@ -75,9 +76,9 @@ positionShown p = coordShown (p .lat .0) ++ coordShown (p .lon .0)
 
 -- A maker's codes as they are.
 unfoldable pub letterShown : MaybeLetter → List ℕ
-letterShown letter.Missing = byteShown 45
+letterShown letter.Missing = byteShown (code "-")
 letterShown (letter.Letter b) = byteShown b
 
 unfoldable pub tripleShown : MaybeTriple → List ℕ
-tripleShown triple.Missing = byteShown 45
-tripleShown (triple.Triple t) = (32 ∷ []) ++ mnemonicText t
+tripleShown triple.Missing = byteShown (code "-")
+tripleShown (triple.Triple t) = (code " " ∷ []) ++ mnemonicText t

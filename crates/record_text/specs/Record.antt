@@ -1,4 +1,5 @@
 -- The fields of a record, one form for each kind.
+use Prim.Native.Char.{code}
 use Prim.Native.Nat.{ℕ}
 use mathlib.Core.List.{List, [], _∷_, _++_}
 use Rattle.text.specs.Number.{padded, signed}
@@ -39,7 +40,7 @@ bShown r h names s =
 
 -- Task, count, name.
 unfoldable pub taskShown : CRecordDeclaration → List ℕ
-taskShown r = numberShown (r .«task_id») ++ ((32 ∷ []) ++ (signed 1 (r .«turnpoint_count») ++ maybeShown (r .«task_name»)))
+taskShown r = numberShown (r .«task_id») ++ ((code " " ∷ []) ++ (signed 1 (r .«turnpoint_count») ++ maybeShown (r .«task_name»)))
 
 -- Date, time, flight date, and these.
 unfoldable pub declarationShown : CRecordDeclaration → List ℕ
@@ -55,7 +56,7 @@ hShown r = byteShown (sourceByte (r .«data_source»)) ++ (partShown (r .mnemoni
 
 -- START-ENDNAME.
 unfoldable pub definitionShown : Extension → List ℕ
-definitionShown e = numberShown (e .«start_byte») ++ ((45 ∷ []) ++ (padded 1 (e .«end_byte») ++ mnemonicText (e .mnemonic)))
+definitionShown e = numberShown (e .«start_byte») ++ ((code "-" ∷ []) ++ (padded 1 (e .«end_byte») ++ mnemonicText (e .mnemonic)))
 
 -- Count, then each definition.
 unfoldable pub tableShown : Table → List ℕ

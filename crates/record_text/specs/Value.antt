@@ -1,4 +1,5 @@
 -- Values of extensions on a B line, looked up by name.
+use Prim.Native.Char.{code}
 use Prim.Native.Nat.{ℕ}
 use mathlib.Core.List.{List, [], _∷_, _++_}
 use lib.ListN.{length}
@@ -15,12 +16,12 @@ use Rattle.record_text.specs.Piece.{placeText}
 
 -- The answer 0 with `@` and the value's place behind it, or the refusal's number.
 unfoldable pub foundText : Res Part → List ℕ
-foundText (ok p) = (48 ∷ []) ++ ((64 ∷ []) ++ placeText p)
+foundText (ok p) = (code "0" ∷ []) ++ ((code "@" ∷ []) ++ placeText p)
 foundText (no n) = padded 1 (numberOf n)
 
 -- NAME=ANSWER, by lookup by name on a line with 35 fixed columns and this rest.
 unfoldable pub valueShown : Held → Part → List ℕ → Mnemonic → List ℕ
-valueShown h rest s name = (32 ∷ []) ++ (mnemonicText name ++ ((61 ∷ []) ++ foundText (lookUp 35 rest h name s)))
+valueShown h rest s name = (code " " ∷ []) ++ (mnemonicText name ++ ((code "=" ∷ []) ++ foundText (lookUp 35 rest h name s)))
 
 -- The names of definitions, in their order.
 unfoldable pub namesOf : List Extension → List Mnemonic

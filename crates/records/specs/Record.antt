@@ -1,4 +1,5 @@
 -- Lines of every kind: an empty line is 1, then the first byte chooses.
+use Prim.Native.Char.{code}
 use Prim.Native.Nat.{ℕ}
 use mathlib.Core.Bool.{Bool, true}
 use mathlib.Core.List.{List, []}
@@ -33,7 +34,7 @@ use Rattle.records.specs.declared.Reading.the-variants as reading
 
 -- D, E, F, G, K and L are not taken.
 unfoldable pub isNotTaken : ℕ → Bool
-isNotTaken b = (b =? 68) ∨? (b =? 69) ∨? (b =? 70) ∨? (b =? 71) ∨? (b =? 75) ∨? (b =? 76)
+isNotTaken b = (b =? code "D") ∨? (b =? code "E") ∨? (b =? code "F") ∨? (b =? code "G") ∨? (b =? code "K") ∨? (b =? code "L")
 
 -- The kinds of line.
 pub data Kind : Type 0 where
@@ -49,12 +50,12 @@ pub data Kind : Type 0 where
 -- The kind of line that a first byte chooses.
 unfoldable pub kindOf : ℕ → Kind
 kindOf b =
-    pick (b =? 65) A
-    (pick (b =? 66) B
-    (pick (b =? 67) C
-    (pick (b =? 72) H
-    (pick (b =? 73) I
-    (pick (b =? 74) J
+    pick (b =? code "A") A
+    (pick (b =? code "B") B
+    (pick (b =? code "C") C
+    (pick (b =? code "H") H
+    (pick (b =? code "I") I
+    (pick (b =? code "J") J
     (pick (isNotTaken b) NotTaken
     Other))))))
 
@@ -91,8 +92,8 @@ recordText (rec.B r) t s = bText r s
 recordText (rec.CDeclaration r) t s = declarationText r s
 recordText (rec.CTurnpoint r) t s = turnpointText r s
 recordText (rec.H r) t s = hText r s
-recordText rec.I t s = tableText 73 t
-recordText rec.J t s = tableText 74 t
+recordText rec.I t s = tableText (code "I") t
+recordText rec.J t s = tableText (code "J") t
 recordText (rec.NotTaken p) t s = partText p s
 recordText (rec.Unrecognised p) t s = partText p s
 
@@ -104,8 +105,8 @@ recordPiece (rec.B r) t s = bBody r (partBytes (r .rest) s)
 recordPiece (rec.CDeclaration r) t s = declarationBody r (maybeBytes (r .«task_name») s)
 recordPiece (rec.CTurnpoint r) t s = turnpointBody r (maybeBytes (r .«turnpoint_name») s)
 recordPiece (rec.H r) t s = hBody r (partBytes (r .mnemonic) s) (maybeBytes (r .«friendly_name») s) (partBytes (r .«data») s)
-recordPiece rec.I t s = tableBody 73 t
-recordPiece rec.J t s = tableBody 74 t
+recordPiece rec.I t s = tableBody (code "I") t
+recordPiece rec.J t s = tableBody (code "J") t
 recordPiece (rec.NotTaken p) t s = partBytes p s
 recordPiece (rec.Unrecognised p) t s = partBytes p s
 

@@ -1,4 +1,5 @@
 -- What the steps of a walk read, as readings of its lines, and this reader among readers of lines.
+use Prim.Native.Char.{code}
 use Prim.Native.Nat.{ℕ, zero, suc}
 use mathlib.Core.Path.{_≡_, refl}
 use mathlib.Core.List.{List, [], _∷_}
@@ -18,15 +19,15 @@ use Rattle.walk.specs.declared.Taken.the-variants.{Line, Done}
 
 -- This reader of lines: the answer to a line with its record, and the table that I lines leave.
 abbrev pub reader : Reader (Res Record) Held
-reader = record { read = readLine; after = λ p h s. heldAfter 73 h s; start = noTable }
+reader = record { read = readLine; after = λ p h s. heldAfter (code "I") h s; start = noTable }
 
-pub i-lines-set : (p : ℕ) (h : Held) (s : List ℕ) → heldAfter 73 h s ≡ pick (begins 73 s) (setBy (readTable s)) h
+pub i-lines-set : (p : ℕ) (h : Held) (s : List ℕ) → heldAfter (code "I") h s ≡ pick (begins (code "I") s) (setBy (readTable s)) h
 unfolding heldAfter
 i-lines-set p h s = refl
 
 -- The table that I lines set: an accepted one replaces it, a refused one removes it.
 abbrev pub letterI : Letter reader Held
-letterI = record { view = λ h. h; begins = begins 73; leaves = λ s. setBy (readTable s); law = i-lines-set }
+letterI = record { view = λ h. h; begins = begins (code "I"); leaves = λ s. setBy (readTable s); law = i-lines-set }
 
 -- What a walk reads of one line.
 abbrev pub Line-read : Type 0

@@ -1,4 +1,5 @@
 -- One step of a walk.
+use Prim.Native.Char.{code}
 use Prim.Native.Nat.{ℕ}
 use mathlib.Core.List.{List}
 use Rattle.text.specs.Res.{Res, ok, no}
@@ -28,7 +29,7 @@ readingOf (no n) = Refused n
 unfoldable pub stepTo : List ℕ → Walk → Next → Step
 stepTo s w (next.Line cut after) = record {
   taken = Line (cut .line) (readingOf (readLine (bytesOf (cut .line) s)));
-  walk = record { at = after; held = heldAfter 73 (w .held) (bytesOf (cut .line) s) };
+  walk = record { at = after; held = heldAfter (code "I") (w .held) (bytesOf (cut .line) s) };
 }
 stepTo s w next.Done = record { taken = Done; walk = w }
 

@@ -1,4 +1,5 @@
 -- How much of a piece of a log can be read, and the pieces of which a log goes through a window.
+use Rattle.text.specs.Line.{LF}
 use Prim.Native.Nat.{ℕ, zero, suc}
 use mathlib.Core.Path.{_≡_}
 use mathlib.Core.Bool.{Bool, true, false}
@@ -9,7 +10,7 @@ use Rattle.log.specs.Pieces.{joined, Whole}
 
 -- A byte in front of so many bytes of whole lines.
 unfoldable pub grow : ℕ → ℕ → ℕ
-grow b zero = pick (b =? 10) 1 0
+grow b zero = pick (b =? LF) 1 0
 grow b (suc n) = suc (suc n)
 
 -- How many bytes there are up to the last LF, that LF with them.
