@@ -1,25 +1,15 @@
 -- A lines: the recorder's maker and number.
-use Prim.Native.Nat.{ℕ, _+_}
-use Prim.Native.Char.{code}
-use mathlib.Core.List.{List, [], _∷_, _++_}
-use mathlib.Core.Bool.{Bool}
-use lib.ListN.{length}
-use Rattle.text.specs.Res.{Res, ok, no, bind, guard, pick, _≤?_, _=?_, _∧?_}
-use Rattle.text.specs.Line.{byte, cut}
+use Rattle.text.specs.Prelude.{ℕ, _+_, code, Bool, List, [], _∷_, _++_, length, Res, ok, no, bind, guard, pick, _≤?_}
+use Rattle.text.specs.Prelude.{_=?_, _∧?_, byte, cut, allDigits}
 use Rattle.part.specs.Part.{nameFrom, partText, maybeText}
-use Rattle.text.specs.Number.{allDigits}
-use Rattle.text.specs.declared.refusal.Refusal.the-variants.{Syntax, NotAscii}
-use Rattle.part.specs.declared.Part.{Part}
-use Rattle.part.specs.declared.MaybePart.{MaybePart}
+use Rattle.text.specs.declared.{refusal.Refusal.the-variants.Syntax, refusal.Refusal.the-variants.NotAscii}
+use Rattle.part.specs.declared.{Part.Part, MaybePart.MaybePart}
 use Rattle.field.specs.Field.{asciiIn, mnemonicText}
 use Rattle.field.specs.declared.Mnemonic.{Mnemonic}
 use Rattle.manufacturer.specs.Maker.{letterMaker, tripleMaker, tripleOf}
-use Rattle.manufacturer.specs.declared.Manufacturer.{Manufacturer}
-use Rattle.manufacturer.specs.declared.MaybeTriple.{MaybeTriple}
-use Rattle.manufacturer.specs.declared.MaybeTriple.the-variants.{Missing, Triple}
-use Rattle.a_record.specs.declared.ARecord.{ARecord}
-use Rattle.a_record.specs.declared.ARead.{ARead}
-use Rattle.a_record.specs.declared.ARead.the-variants as a
+use Rattle.manufacturer.specs.declared.{Manufacturer.Manufacturer, MaybeTriple.MaybeTriple}
+use Rattle.manufacturer.specs.declared.{MaybeTriple.the-variants.Missing, MaybeTriple.the-variants.Triple}
+use Rattle.a_record.specs.declared.{ARecord.ARecord, ARead.ARead}
 
 -- A record of its three parts.
 unfoldable pub aNew : Manufacturer → Part → MaybePart → ARecord
@@ -76,5 +66,5 @@ aText r s =
 -- ---- the answers of the code
 
 abbrev pub aRes : ARead → Res ARecord
-aRes (a.Ok v) = ok v
-aRes (a.Refused n) = no n
+aRes (ARead.Ok v) = ok v
+aRes (ARead.Refused n) = no n

@@ -1,17 +1,10 @@
 -- The quick way: fields whose numbers are digits alone are read as their values.
-use Prim.Native.Nat.{ℕ, _+_, _-_, _≤_, _<_}
-use mathlib.Core.Path.{_≡_, refl, ap, _∙_}
-use mathlib.Core.Bool.{true}
-use mathlib.Core.List.{List}
-use native.Mathlib.Omega.{arith}
-use lib.ListN.{length, length-take, length-drop}
+use Rattle.text.specs.Prelude.{ℕ, _+_, _-_, _≤_, _<_, _≡_, true, List, length, Res, ok, bind, byte, cut, columns}
+use Rattle.text.specs.Prelude.{readNat, readInt, allDigits, valueFrom}
+use Rattle.text.proofs.Prelude.{arith, refl, ap, _∙_, length-drop, length-take, on, pass, yes=, both}
 use mir.Syntax.{w16}
 use mir.Val.{toZ}
 use mir.Facts.{toZ-pos}
-use Rattle.text.specs.Res.{Res, ok, bind}
-use Rattle.text.specs.Line.{byte, cut, columns}
-use Rattle.text.specs.Number.{allDigits, valueFrom, readNat, readInt}
-use Rattle.text.proofs.Steps.{both, on, pass, yes=}
 use Rattle.text.proofs.Decimal.{value-below}
 use Rattle.text.proofs.Reading.{Written, nat-plain, int-plain}
 use Rattle.field.specs.Field.{isAscii, sized}
@@ -20,13 +13,11 @@ use Rattle.field.proofs.Digits.{cut-cut, byte-cut, cut-digits}
 use Rattle.field.proofs.Fields.{columns-of-ascii}
 use Rattle.datetime.specs.Three.{readThree}
 use Rattle.datetime.specs.Time.{timeOf, readTime}
-use Rattle.coord.specs.Coord.{lettered, readCoord, readBoth, readPosition}
-use Rattle.coord.specs.Coord.{latitude, longitude, latitudeIn, longitudeIn, latitudeBy, longitudeBy}
-use Rattle.coord.specs.declared.Compass.{Compass}
-use Rattle.coord.specs.declared.Compass.the-variants.{North, South, East, West}
-use Rattle.coord.specs.declared.RawCoord.{RawCoord}
-use Rattle.coord.specs.declared.RawLatitude.{RawLatitude}
-use Rattle.coord.specs.declared.RawLongitude.{RawLongitude}
+use Rattle.coord.specs.Coord.{lettered, readCoord, readBoth, readPosition, latitude, longitude, latitudeIn, longitudeIn}
+use Rattle.coord.specs.Coord.{latitudeBy, longitudeBy}
+use Rattle.coord.specs.declared.{Compass.Compass, Compass.the-variants.North, Compass.the-variants.South}
+use Rattle.coord.specs.declared.{Compass.the-variants.East, Compass.the-variants.West, RawCoord.RawCoord}
+use Rattle.coord.specs.declared.{RawLatitude.RawLatitude, RawLongitude.RawLongitude}
 use Rattle.b_record.specs.BRecord.{readHeights}
 use Rattle.b_quick.specs.Quick.{plainDigits}
 

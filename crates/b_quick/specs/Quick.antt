@@ -1,16 +1,9 @@
 -- B lines whose numbers are plain digits. No definition of a line's reading cites this.
-use Prim.Native.Nat.{ℕ}
-use mathlib.Core.Bool.{Bool}
-use mathlib.Core.List.{List}
-use lib.ListN.{length}
-use Rattle.text.specs.Res.{Res, ok, no, pick, _≤?_, _∧?_}
-use Rattle.text.specs.Line.{cut}
-use Rattle.text.specs.Number.{allDigits}
+use Rattle.text.specs.Prelude.{ℕ, Bool, List, length, Res, ok, no, pick, _≤?_, _∧?_, cut, allDigits}
 use Rattle.field.specs.Field.{isAscii}
 use Rattle.b_record.specs.BRecord.{readB}
 use Rattle.b_record.specs.declared.BRecord.{BRecord}
-use Rattle.b_quick.specs.declared.Quick.{Quick}
-use Rattle.b_quick.specs.declared.Quick.the-variants.{Fix, No}
+use Rattle.b_quick.specs.declared.{Quick.Quick, Quick.the-variants.Fix, Quick.the-variants.No}
 
 -- The numbers of a fix have digits alone, by blocks of columns.
 unfoldable pub plainDigits : List ℕ → Bool

@@ -1,29 +1,15 @@
 -- B lines: fixes.
-use Prim.Native.Char.{code}
-use Prim.Native.Nat.{ℕ}
-use mathlib.Core.List.{List, [], _∷_, _++_}
-use mathlib.Core.Bool.{Bool}
-use lib.ListN.{length}
-use Rattle.text.specs.Res.{Res, ok, no, bind, guard, pick, _≤?_, _=?_, _∧?_}
-use Rattle.text.specs.Line.{byte, columns}
+use Rattle.text.specs.Prelude.{ℕ, code, Bool, List, [], _∷_, _++_, length, Res, ok, no, bind, guard, pick, _≤?_, _=?_}
+use Rattle.text.specs.Prelude.{_∧?_, byte, columns, readInt, signed}
 use Rattle.part.specs.Part.{restFrom, partText}
-use Rattle.text.specs.Number.{readInt, signed}
 use Rattle.text.specs.declared.refusal.Refusal.the-variants.{Syntax}
 use Rattle.field.specs.Field.{ascii}
 use Rattle.datetime.specs.Time.{readTime, timeText, timeBook}
 use Rattle.coord.specs.Coord.{readPosition, positionText, positionBook}
-use Rattle.b_record.specs.declared.FixValid.{FixValid}
-use Rattle.b_record.specs.declared.FixValid.the-variants.{Valid, NavWarning}
-use Rattle.b_record.specs.declared.ValidRead.{ValidRead}
-use Rattle.b_record.specs.declared.ValidRead.the-variants as fix
-use Rattle.b_record.specs.declared.PressureAlt.{PressureAlt}
-use Rattle.b_record.specs.declared.GpsAlt.{GpsAlt}
-use Rattle.b_record.specs.declared.Heights.{Heights}
-use Rattle.b_record.specs.declared.HeightsRead.{HeightsRead}
-use Rattle.b_record.specs.declared.HeightsRead.the-variants as heights
-use Rattle.b_record.specs.declared.BRecord.{BRecord}
-use Rattle.b_record.specs.declared.BRead.{BRead}
-use Rattle.b_record.specs.declared.BRead.the-variants as b
+use Rattle.b_record.specs.declared.{FixValid.FixValid, FixValid.the-variants.Valid}
+use Rattle.b_record.specs.declared.{FixValid.the-variants.NavWarning, ValidRead.ValidRead}
+use Rattle.b_record.specs.declared.{PressureAlt.PressureAlt, GpsAlt.GpsAlt, Heights.Heights}
+use Rattle.b_record.specs.declared.{HeightsRead.HeightsRead, BRecord.BRecord, BRead.BRead}
 
 -- A, V.
 unfoldable pub validLetter : FixValid → ℕ
@@ -88,13 +74,13 @@ bBook r = timeBook (r .timestamp) ∧? positionBook (r .pos)
 -- ---- the answers of the code
 
 abbrev pub validRes : ValidRead → Res FixValid
-validRes (fix.Ok v) = ok v
-validRes (fix.Refused n) = no n
+validRes (ValidRead.Ok v) = ok v
+validRes (ValidRead.Refused n) = no n
 
 abbrev pub heightsRes : HeightsRead → Res Heights
-heightsRes (heights.Ok v) = ok v
-heightsRes (heights.Refused n) = no n
+heightsRes (HeightsRead.Ok v) = ok v
+heightsRes (HeightsRead.Refused n) = no n
 
 abbrev pub bRes : BRead → Res BRecord
-bRes (b.Ok v) = ok v
-bRes (b.Refused n) = no n
+bRes (BRead.Ok v) = ok v
+bRes (BRead.Refused n) = no n

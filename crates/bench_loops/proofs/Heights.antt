@@ -1,10 +1,8 @@
 -- A height, and 0 where it is below 0.
-use Prim.Native.Nat.{ℕ, _<_, _^_}
-use mathlib.Core.Path.{_≡_, refl, subst}
-use mathlib.Core.Bool.{true, false}
-use native.Mathlib.Omega.{arith}
+use Rattle.text.specs.Prelude.{ℕ, _^_, _<_, _≡_, true, false, ℤ, pos, negsuc}
+use Rattle.text.proofs.Prelude.{arith, refl, subst}
 use lib.Dec.{T}
-use lib.IntN.{ℤ, pos, negsuc, natAbs}
+use lib.IntN.{natAbs}
 use lib.Signed.{ltZ, nonNeg}
 use mir.Syntax.{w16, w64}
 use mir.Val.{SFits, Fits, toZ, ofZ}

@@ -1,20 +1,13 @@
 -- What is timed: figures over the readings of a fresh walk, in 64 bits.
-use Prim.Native.Nat.{ℕ, _+_, _%_, _^_}
-use mathlib.Core.Path.{_≡_}
-use mathlib.Core.List.{List}
-use lib.IntN.{ℤ, pos, negsuc}
-use lib.ListN.{length}
-use Rattle.text.specs.Res.{Res, ok, no}
-use Rattle.text.specs.Line.{byte}
+use Rattle.text.specs.Prelude.{ℕ, _+_, _%_, _^_, _≡_, List, length, ℤ, pos, negsuc, Res, ok, no, byte}
 use Rattle.part.specs.Part.{bytesOf, shown}
 use Rattle.field.specs.declared.Mnemonic.{Mnemonic}
 use Rattle.print.specs.Print.{answerTo, leftBy}
 use Rattle.datetime.specs.Time.{secondsOf}
 use Rattle.b_record.specs.declared.BRecord.{BRecord}
 use Rattle.records.specs.Record.{answerPrinted, recordFix, answerFix}
-use Rattle.records.specs.declared.Record.{Record}
-use Rattle.records.specs.declared.MaybeFix.{MaybeFix}
-use Rattle.records.specs.declared.MaybeFix.the-variants.{Missing, Fix}
+use Rattle.records.specs.declared.{Record.Record, MaybeFix.MaybeFix, MaybeFix.the-variants.Missing}
+use Rattle.records.specs.declared.{MaybeFix.the-variants.Fix}
 use Rattle.held.specs.Held.{lookUp}
 use Rattle.held.specs.declared.Held.{Held}
 use Rattle.log.specs.Log.{readings}

@@ -1,31 +1,18 @@
 -- C lines: a task's declaration and its turnpoints.
-use Prim.Native.Nat.{ℕ}
-use Prim.Native.Char.{code}
-use mathlib.Core.List.{List, [], _∷_, _++_}
-use mathlib.Core.Bool.{Bool, true}
-use lib.ListN.{length, replicate}
-use Rattle.text.specs.Res.{Res, ok, no, bind, guard, pick, _≤?_, _=?_, _∧?_, _∨?_}
-use Rattle.text.specs.Line.{byte, cut, columns}
+use Rattle.text.specs.Prelude.{ℕ, code, Bool, true, List, [], _∷_, _++_, length, replicate, Res, ok, no, bind, guard}
+use Rattle.text.specs.Prelude.{pick, _≤?_, _=?_, _∧?_, _∨?_, byte, cut, columns, readNat, readInt, zeros, padded}
+use Rattle.text.specs.Prelude.{signed}
 use Rattle.part.specs.Part.{nameFrom, maybeText}
-use Rattle.text.specs.Number.{readNat, readInt, padded, signed, zeros}
 use Rattle.text.specs.declared.refusal.Refusal.the-variants.{Syntax}
 use Rattle.field.specs.Field.{asciiIn}
 use Rattle.datetime.specs.Time.{readTime, timeText, timeBook}
 use Rattle.datetime.specs.Date.{readDate, dateText, dateBook}
 use Rattle.coord.specs.Coord.{readPosition, positionText, positionBook}
-use Rattle.c_record.specs.declared.MaybeDate.{MaybeDate}
-use Rattle.c_record.specs.declared.MaybeDate.the-variants.{Missing, On}
-use Rattle.c_record.specs.declared.FlightRead.{FlightRead}
-use Rattle.c_record.specs.declared.FlightRead.the-variants as flight
-use Rattle.c_record.specs.declared.Task.{Task}
-use Rattle.c_record.specs.declared.TaskRead.{TaskRead}
-use Rattle.c_record.specs.declared.TaskRead.the-variants as task
-use Rattle.c_record.specs.declared.CRecordDeclaration.{CRecordDeclaration}
-use Rattle.c_record.specs.declared.DeclarationRead.{DeclarationRead}
-use Rattle.c_record.specs.declared.DeclarationRead.the-variants as declaration
-use Rattle.c_record.specs.declared.CRecordTurnpoint.{CRecordTurnpoint}
-use Rattle.c_record.specs.declared.TurnpointRead.{TurnpointRead}
-use Rattle.c_record.specs.declared.TurnpointRead.the-variants as turnpoint
+use Rattle.c_record.specs.declared.{MaybeDate.MaybeDate, MaybeDate.the-variants.Missing}
+use Rattle.c_record.specs.declared.{MaybeDate.the-variants.On, FlightRead.FlightRead, Task.Task}
+use Rattle.c_record.specs.declared.{TaskRead.TaskRead, CRecordDeclaration.CRecordDeclaration}
+use Rattle.c_record.specs.declared.{DeclarationRead.DeclarationRead, CRecordTurnpoint.CRecordTurnpoint}
+use Rattle.c_record.specs.declared.{TurnpointRead.TurnpointRead}
 
 -- N or S at column 8 makes a turnpoint.
 unfoldable pub turns : List ℕ → Bool
@@ -111,17 +98,17 @@ turnpointBook r = positionBook (r .position)
 -- ---- the answers of the code
 
 abbrev pub flightRes : FlightRead → Res MaybeDate
-flightRes (flight.Ok v) = ok v
-flightRes (flight.Refused n) = no n
+flightRes (FlightRead.Ok v) = ok v
+flightRes (FlightRead.Refused n) = no n
 
 abbrev pub taskRes : TaskRead → Res Task
-taskRes (task.Ok v) = ok v
-taskRes (task.Refused n) = no n
+taskRes (TaskRead.Ok v) = ok v
+taskRes (TaskRead.Refused n) = no n
 
 abbrev pub declarationRes : DeclarationRead → Res CRecordDeclaration
-declarationRes (declaration.Ok v) = ok v
-declarationRes (declaration.Refused n) = no n
+declarationRes (DeclarationRead.Ok v) = ok v
+declarationRes (DeclarationRead.Refused n) = no n
 
 abbrev pub turnpointRes : TurnpointRead → Res CRecordTurnpoint
-turnpointRes (turnpoint.Ok v) = ok v
-turnpointRes (turnpoint.Refused n) = no n
+turnpointRes (TurnpointRead.Ok v) = ok v
+turnpointRes (TurnpointRead.Refused n) = no n

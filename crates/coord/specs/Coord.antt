@@ -1,29 +1,14 @@
 -- Coordinates, and a position: latitude first.
-use Prim.Native.Char.{code}
-use Prim.Native.Nat.{ℕ, _+_}
-use mathlib.Core.List.{List, [], _∷_, _++_}
-use mathlib.Core.Bool.{Bool}
-use Rattle.text.specs.Res.{Res, ok, no, bind, guard, pick, _≤?_, _=?_, _∧?_, _∨?_}
-use Rattle.text.specs.Line.{byte, columns}
-use Rattle.text.specs.Number.{readNat, padded}
-use Rattle.text.specs.declared.refusal.Refusal.the-variants.{Syntax, OutOfRange}
+use Rattle.text.specs.Prelude.{ℕ, _+_, code, Bool, List, [], _∷_, _++_, Res, ok, no, bind, guard, pick, _≤?_, _=?_}
+use Rattle.text.specs.Prelude.{_∧?_, _∨?_, byte, columns, readNat, padded}
+use Rattle.text.specs.declared.{refusal.Refusal.the-variants.Syntax, refusal.Refusal.the-variants.OutOfRange}
 use Rattle.field.specs.Field.{sized, field}
-use Rattle.coord.specs.declared.Compass.{Compass}
-use Rattle.coord.specs.declared.Compass.the-variants.{North, South, East, West}
-use Rattle.coord.specs.declared.CompassRead.{CompassRead}
-use Rattle.coord.specs.declared.CompassRead.the-variants as compass
-use Rattle.coord.specs.declared.RawCoord.{RawCoord}
-use Rattle.coord.specs.declared.CoordRead.{CoordRead}
-use Rattle.coord.specs.declared.CoordRead.the-variants as coord
-use Rattle.coord.specs.declared.RawLatitude.{RawLatitude}
-use Rattle.coord.specs.declared.LatitudeRead.{LatitudeRead}
-use Rattle.coord.specs.declared.LatitudeRead.the-variants as lat
-use Rattle.coord.specs.declared.RawLongitude.{RawLongitude}
-use Rattle.coord.specs.declared.LongitudeRead.{LongitudeRead}
-use Rattle.coord.specs.declared.LongitudeRead.the-variants as lon
-use Rattle.coord.specs.declared.position.RawPosition.{RawPosition}
-use Rattle.coord.specs.declared.position.PositionRead.{PositionRead}
-use Rattle.coord.specs.declared.position.PositionRead.the-variants as pos
+use Rattle.coord.specs.declared.{Compass.Compass, Compass.the-variants.North, Compass.the-variants.South}
+use Rattle.coord.specs.declared.{Compass.the-variants.East, Compass.the-variants.West, CompassRead.CompassRead}
+use Rattle.coord.specs.declared.{RawCoord.RawCoord, CoordRead.CoordRead, RawLatitude.RawLatitude}
+use Rattle.coord.specs.declared.{LatitudeRead.LatitudeRead, RawLongitude.RawLongitude}
+use Rattle.coord.specs.declared.{LongitudeRead.LongitudeRead, position.RawPosition.RawPosition}
+use Rattle.coord.specs.declared.{position.PositionRead.PositionRead}
 
 -- N, S, E, W.
 unfoldable pub compassLetter : Compass → ℕ
@@ -135,21 +120,21 @@ positionBook p = coordBook (p .lat .0) ∧? coordBook (p .lon .0)
 -- ---- the answers of the code
 
 abbrev pub compassRes : CompassRead → Res Compass
-compassRes (compass.Ok v) = ok v
-compassRes (compass.Refused n) = no n
+compassRes (CompassRead.Ok v) = ok v
+compassRes (CompassRead.Refused n) = no n
 
 abbrev pub coordRes : CoordRead → Res RawCoord
-coordRes (coord.Ok v) = ok v
-coordRes (coord.Refused n) = no n
+coordRes (CoordRead.Ok v) = ok v
+coordRes (CoordRead.Refused n) = no n
 
 abbrev pub latitudeRes : LatitudeRead → Res RawLatitude
-latitudeRes (lat.Ok v) = ok v
-latitudeRes (lat.Refused n) = no n
+latitudeRes (LatitudeRead.Ok v) = ok v
+latitudeRes (LatitudeRead.Refused n) = no n
 
 abbrev pub longitudeRes : LongitudeRead → Res RawLongitude
-longitudeRes (lon.Ok v) = ok v
-longitudeRes (lon.Refused n) = no n
+longitudeRes (LongitudeRead.Ok v) = ok v
+longitudeRes (LongitudeRead.Refused n) = no n
 
 abbrev pub positionRes : PositionRead → Res RawPosition
-positionRes (pos.Ok v) = ok v
-positionRes (pos.Refused n) = no n
+positionRes (PositionRead.Ok v) = ok v
+positionRes (PositionRead.Refused n) = no n

@@ -1,12 +1,7 @@
 -- Three numbers read together, and then something made of them.
-use Prim.Native.Nat.{ℕ}
-use mathlib.Core.Path.{_≡_, refl, sym, _∙_}
-use mathlib.Core.Bool.{Bool, true, false}
-use mathlib.Core.List.{List}
-use Rattle.text.specs.Res.{Res, ok, no, bind, guard}
-use Rattle.text.specs.Number.{readNat}
+use Rattle.text.specs.Prelude.{ℕ, _≡_, Bool, true, false, List, Res, ok, no, bind, guard, columns, readNat}
+use Rattle.text.proofs.Prelude.{refl, sym, _∙_}
 use Rattle.text.specs.declared.refusal.Refusal.{Refusal}
-use Rattle.text.specs.Line.{columns}
 use Rattle.field.specs.Field.{sized}
 use Rattle.datetime.specs.Three.{readThree, together}
 use Rattle.datetime.specs.declared.Three.{Three}

@@ -1,13 +1,8 @@
 -- A value that is found lies inside the line.
-use Prim.Native.Nat.{ℕ, _+_, _≤_}
-use mathlib.Core.Path.{_≡_, refl, sym, _∙_}
-use mathlib.Core.List.{List}
-use native.Mathlib.Omega.{arith}
-use lib.ListN.{length}
-use Rattle.text.specs.Res.{ok}
+use Rattle.text.specs.Prelude.{ℕ, _+_, _≤_, _≡_, List, length, ok}
+use Rattle.text.proofs.Prelude.{arith, refl, sym, _∙_, pass, yes≤, is≤}
 use Rattle.part.specs.Part.{findPart, shown}
 use Rattle.part.specs.declared.Part.{Part}
-use Rattle.text.proofs.Steps.{is≤, yes≤, pass}
 use Rattle.text.proofs.Finds.{Finds, finds-ok, finds-bind, finds-guard}
 use Rattle.part.proofs.Parts.{inside, shown-found}
 use Rattle.extension.specs.Value.{findValue}

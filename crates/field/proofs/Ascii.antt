@@ -1,16 +1,10 @@
 -- ASCII: every byte of it, eight bytes at once, and parts of an ASCII text.
-use Prim.Native.Nat.{ℕ, zero, suc, _+_, _-_, _*_, _/_, _%_, _≤_, _<_}
-use mathlib.Core.Path.{_≡_, refl, sym, _∙_}
-use mathlib.Core.List.{List, [], _∷_}
-use mathlib.Core.Bool.{Bool, true, false}
-use native.Mathlib.Omega.{arith}
+use Rattle.text.specs.Prelude.{ℕ, zero, suc, _+_, _-_, _*_, _/_, _%_, _≤_, _<_, _≡_, Bool, true, false, List, [], _∷_}
+use Rattle.text.specs.Prelude.{length, take, drop, getD, Res, pick, _≤?_, _∧?_, cut}
+use Rattle.text.proofs.Prelude.{arith, refl, sym, _∙_, pass, is≤, isnt≤, holds, fails, both, and}
 use lib.Bits.{bitAnd, and-block, and-high}
 use lib.Dec.{eqb}
-use lib.ListN.{length, take, drop, getD}
 use borrow.Author.Tests.{eq-eqb, ne-eqb}
-use Rattle.text.specs.Res.{Res, pick, _≤?_, _∧?_}
-use Rattle.text.proofs.Steps.{is≤, isnt≤, fails, holds, and, both, pass}
-use Rattle.text.specs.Line.{cut}
 use Rattle.field.specs.Field.{isAscii, asciiIn, ascii}
 use Rattle.field.proofs.Every.{Every, ∧?-assoc, all-at}
 

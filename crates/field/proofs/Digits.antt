@@ -1,14 +1,9 @@
 -- Columns of columns, and digits in them.
-use Prim.Native.Nat.{ℕ, zero, suc, _+_, _-_, _≤_, _<_}
-use mathlib.Core.Path.{_≡_, refl, sym}
-use mathlib.Core.Bool.{true}
-use mathlib.Core.List.{List, [], _∷_}
+use Rattle.text.specs.Prelude.{ℕ, zero, suc, _+_, _-_, _≤_, _<_, _≡_, true, List, [], _∷_, take, drop, byte, cut}
+use Rattle.text.specs.Prelude.{allDigits}
+use Rattle.text.proofs.Prelude.{arith, refl, sym, drop-drop, getD-drop, getD-take}
 use native.Mathlib.Nat.{sub-zero, zero-sub, suc-sub-suc}
-use native.Mathlib.Omega.{arith}
-use lib.ListN.{take, drop}
-use lib.Seq.{take-nil, take-take, drop-drop, getD-take, getD-drop}
-use Rattle.text.specs.Line.{byte, cut}
-use Rattle.text.specs.Number.{allDigits}
+use lib.Seq.{take-nil, take-take}
 use Rattle.text.proofs.Decimal.{head-digit, cons-digit}
 
 -- ---- columns of columns

@@ -1,13 +1,8 @@
 -- A test that every byte of a text passes: one law for the loops over bytes.
-use Prim.Native.Nat.{ℕ, suc, _+_, _≤_, _<_}
-use mathlib.Core.Path.{_≡_, refl, sym, ap, _∙_}
-use mathlib.Core.List.{List, [], _∷_}
-use mathlib.Core.Bool.{Bool, true, false}
+use Rattle.text.specs.Prelude.{ℕ, suc, _+_, _≤_, _<_, _≡_, Bool, true, false, List, [], _∷_, length, drop, getD, pick}
+use Rattle.text.specs.Prelude.{_∧?_}
+use Rattle.text.proofs.Prelude.{refl, sym, ap, _∙_, drop-of-length-le, drop-cons, holds}
 use native.Mathlib.Numerals.{add-one}
-use lib.ListN.{length, drop, getD, drop-of-length-le}
-use lib.Seq.{drop-cons}
-use Rattle.text.specs.Res.{pick, _∧?_}
-use Rattle.text.proofs.Steps.{holds}
 
 pub ∧?-assoc : (a b c : Bool) → ((a ∧? b) ∧? c) ≡ (a ∧? (b ∧? c))
 unfolding _∧?_ pick

@@ -1,9 +1,5 @@
 -- A line of the program `fields`, and the whole text.
-use Rattle.text.specs.Line.{LF}
-use Prim.Native.Char.{code}
-use Prim.Native.Nat.{ℕ}
-use mathlib.Core.List.{List, [], _∷_, _++_}
-use Rattle.text.specs.Res.{Res, ok, no, pick, _=?_}
+use Rattle.text.specs.Prelude.{ℕ, code, List, [], _∷_, _++_, Res, ok, no, pick, _=?_, LF}
 use Rattle.records.specs.Record.{recordTable, recordPiece, recordBook, acceptedAs}
 use Rattle.records.specs.declared.Record.{Record}
 use Rattle.log.specs.Log.{readings}

@@ -1,12 +1,8 @@
 -- What one call of `read` or of `write` did.
-use Prim.Native.Nat.{ℕ, zero, suc, _+_, _≤_}
-use mathlib.Core.Bool.{Bool, false}
-use mathlib.Core.List.{List}
-use lib.ListN.{length}
-use lib.IntN.{ℤ, pos, negsuc}
-use Rattle.text.specs.Res.{pick, _=?_}
-use Rattle.files.specs.declared.call.Did.{Did}
-use Rattle.files.specs.declared.call.Did.the-variants.{Bytes, Nothing, Again, Closed, Failed}
+use Rattle.text.specs.Prelude.{ℕ, zero, suc, _+_, _≤_, Bool, false, List, length, ℤ, pos, negsuc, pick, _=?_}
+use Rattle.files.specs.declared.{call.Did.Did, call.Did.the-variants.Bytes, call.Did.the-variants.Nothing}
+use Rattle.files.specs.declared.{call.Did.the-variants.Again, call.Did.the-variants.Closed}
+use Rattle.files.specs.declared.{call.Did.the-variants.Failed}
 
 -- errno is that number.
 unfoldable pub isErrno : ℕ → ℤ → Bool

@@ -1,8 +1,5 @@
 -- What reaches a terminal.
-use Rattle.text.specs.Line.{LF}
-use Prim.Native.Char.{code}
-use Prim.Native.Nat.{ℕ}
-use Rattle.text.specs.Res.{pick, _≤?_, _=?_, _∧?_, _∨?_}
+use Rattle.text.specs.Prelude.{ℕ, code, pick, _≤?_, _=?_, _∧?_, _∨?_, LF}
 
 -- LF and the characters of printable ASCII as they are, any other byte as `?`.
 unfoldable pub visible : ℕ → ℕ

@@ -1,14 +1,7 @@
 -- The first colon of a line, looked for byte by byte: what is left, from i on, is the whole.
-use Prim.Native.Nat.{ℕ, _+_, _≤_, _<_}
-use mathlib.Core.Path.{_≡_}
-use mathlib.Core.Bool.{Bool, true, false}
-use mathlib.Core.List.{List, [], _∷_}
+use Rattle.text.specs.Prelude.{ℕ, _+_, _≤_, _<_, _≡_, Bool, true, false, List, [], _∷_, length, drop, getD, pick, _=?_}
+use Rattle.text.proofs.Prelude.{arith, length-drop, drop-cons, drop-length, yes=, no=}
 use native.Mathlib.Numerals.{add-one}
-use native.Mathlib.Omega.{arith}
-use lib.ListN.{length, drop, getD, length-drop}
-use lib.Seq.{drop-cons, drop-length}
-use Rattle.text.specs.Res.{pick, _=?_}
-use Rattle.text.proofs.Steps.{yes=, no=}
 use Rattle.h_record.specs.HRecord.{colonIn}
 
 module _ (s : List ℕ) (i : ℕ) {n : ℕ} (inv : i + colonIn (drop i s) ≡ n) where

@@ -1,20 +1,13 @@
 -- H lines: headers.
-use Prim.Native.Nat.{ℕ, suc, _+_, _-_, _/_, _%_}
-use Prim.Native.Char.{code}
-use mathlib.Core.List.{List, [], _∷_, _++_}
-use lib.ListN.{length, drop}
-use Rattle.text.specs.Res.{Res, ok, no, bind, guard, pick, _≤?_, _=?_}
-use Rattle.text.specs.Line.{byte, cut}
+use Rattle.text.specs.Prelude.{ℕ, suc, _+_, _-_, _/_, _%_, code, List, [], _∷_, _++_, length, drop, Res, ok, no, bind}
+use Rattle.text.specs.Prelude.{guard, pick, _≤?_, _=?_, byte, cut}
 use Rattle.part.specs.Part.{restFrom, partText, maybeText}
 use Rattle.text.specs.declared.refusal.Refusal.the-variants.{Syntax}
 use Rattle.part.specs.declared.MaybePart.{MaybePart}
-use Rattle.part.specs.declared.MaybePart.the-variants as maybe
 use Rattle.field.specs.Field.{asciiIn}
-use Rattle.h_record.specs.declared.DataSource.{DataSource}
-use Rattle.h_record.specs.declared.DataSource.the-variants.{FVU, OfficialObserver, Pilot, Unrecognized}
-use Rattle.h_record.specs.declared.HRecord.{HRecord}
-use Rattle.h_record.specs.declared.HRead.{HRead}
-use Rattle.h_record.specs.declared.HRead.the-variants as h
+use Rattle.h_record.specs.declared.{DataSource.DataSource, DataSource.the-variants.FVU}
+use Rattle.h_record.specs.declared.{DataSource.the-variants.OfficialObserver, DataSource.the-variants.Pilot}
+use Rattle.h_record.specs.declared.{DataSource.the-variants.Unrecognized, HRecord.HRecord, HRead.HRead}
 
 -- The byte of a source.
 unfoldable pub sourceByte : DataSource → ℕ
@@ -40,8 +33,8 @@ colonIn (b ∷ s) = pick (b =? code ":") 0 (suc (colonIn s))
 unfoldable pub named : List ℕ → ℕ → HRecord
 named s c =
     pick (c =? length s)
-    (record { «data_source» = sourceOf (byte 1 s); mnemonic = record { start = 2; len = 3 }; «friendly_name» = maybe.Missing; «data» = restFrom 5 s })
-    (record { «data_source» = sourceOf (byte 1 s); mnemonic = record { start = 2; len = 3 }; «friendly_name» = maybe.At (record { start = 5; len = c - 5 }); «data» = restFrom (c + 1) s })
+    (record { «data_source» = sourceOf (byte 1 s); mnemonic = record { start = 2; len = 3 }; «friendly_name» = MaybePart.Missing; «data» = restFrom 5 s })
+    (record { «data_source» = sourceOf (byte 1 s); mnemonic = record { start = 2; len = 3 }; «friendly_name» = MaybePart.At (record { start = 5; len = c - 5 }); «data» = restFrom (c + 1) s })
 
 -- Under 6 bytes 1; a first byte other than H 1; 0-5 ASCII (2); source, mnemonic 2-5, name and data.
 unfoldable pub readH : List ℕ → Res HRecord
@@ -57,8 +50,8 @@ charText b = pick (b ≤? 127) (b ∷ []) (((192 + b / 64) ∷ []) ++ ((128 + b 
 
 -- A name with its colon; nothing where there is no name.
 unfoldable pub nameText : MaybePart → List ℕ → List ℕ
-nameText maybe.Missing t = []
-nameText (maybe.At p) t = t ++ (code ":" ∷ [])
+nameText MaybePart.Missing t = []
+nameText (MaybePart.At p) t = t ++ (code ":" ∷ [])
 
 -- The name with its colon, and the data.
 unfoldable pub dataText : HRecord → List ℕ → List ℕ → List ℕ
@@ -79,5 +72,5 @@ hText r s =
 -- ---- the answers of the code
 
 abbrev pub hRes : HRead → Res HRecord
-hRes (h.Ok v) = ok v
-hRes (h.Refused n) = no n
+hRes (HRead.Ok v) = ok v
+hRes (HRead.Refused n) = no n

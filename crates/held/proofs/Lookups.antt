@@ -1,16 +1,9 @@
 -- Lookup by name: a turn of the loop over a table's definitions, and what a refused line leaves.
-use Prim.Native.Nat.{ℕ, _+_, _≤_, _<_}
-use mathlib.Core.Path.{_≡_, sym}
-use mathlib.Core.Bool.{false}
-use mathlib.Core.List.{List}
+use Rattle.text.specs.Prelude.{ℕ, _+_, _≤_, _<_, _≡_, false, List, length, drop, getD, Res, ok, no, pick}
+use Rattle.text.proofs.Prelude.{sym, drop-of-length-le, drop-cons, length-take-le, getD-take, off, stop}
 use native.Mathlib.Numerals.{add-one}
-use lib.ListN.{length, getD, drop, drop-of-length-le}
-use lib.Seq.{drop-cons, getD-take, length-take-le}
-use Rattle.text.specs.Res.{Res, ok, no, pick}
-use Rattle.text.specs.declared.refusal.Refusal.{Refusal}
-use Rattle.text.specs.declared.refusal.Refusal.the-variants.{NoDefinition}
+use Rattle.text.specs.declared.{refusal.Refusal.Refusal, refusal.Refusal.the-variants.NoDefinition}
 use Rattle.part.specs.declared.Part.{Part}
-use Rattle.text.proofs.Steps.{off, stop}
 use Rattle.field.specs.declared.Mnemonic.{Mnemonic}
 use Rattle.table.specs.Table.{empty, defsOf}
 use Rattle.extension.specs.declared.Extension.{Extension}

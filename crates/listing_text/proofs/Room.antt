@@ -1,17 +1,8 @@
 -- The listing of a log has room: 38 characters for each of its lines, 65 for the trailer.
-use Prim.Native.Nat.{ℕ, suc, _+_, _^_, _≤_, _<_}
-use mathlib.Core.Path.{_≡_, refl}
-use mathlib.Core.Bool.{Bool, true, false}
-use mathlib.Core.List.{List, [], _∷_}
-use native.Mathlib.Omega.{arith}
-use lib.ListN.{length, length-append}
-use Rattle.text.specs.Res.{Res, ok, no, pick, numberOf}
-use Rattle.text.specs.Word.{largest}
-use Rattle.text.specs.Line.{byte, cut, columns}
-use Rattle.text.specs.Number.{signed}
+use Rattle.text.specs.Prelude.{ℕ, suc, _+_, _^_, _≤_, _<_, _≡_, Bool, true, false, List, [], _∷_, length, Res, ok, no}
+use Rattle.text.specs.Prelude.{pick, numberOf, byte, cut, columns, largest, signed}
+use Rattle.text.proofs.Prelude.{arith, refl, length-append, is≤}
 use Rattle.text.specs.declared.refusal.Refusal.{Refusal}
-use Rattle.text.specs.declared.refusal.Refusal.the-variants as refusal
-use Rattle.text.proofs.Steps.{is≤}
 use Rattle.text.proofs.Finds.{Finds, finds-ok, finds-bind, finds-guard, finds-pick}
 use Rattle.text.proofs.Decimal.{places-le, length-padded}
 use Rattle.text.proofs.RoundTrip.{int-columns}
@@ -20,7 +11,6 @@ use Rattle.field.specs.Field.{asciiIn, ascii}
 use Rattle.b_record.specs.BRecord.{readHeights, readFix, readB}
 use Rattle.records.specs.Record.{kindOf, readC, readKind, readLine, recordFix, answerFix, acceptedAs}
 use Rattle.records.specs.declared.Record.{Record}
-use Rattle.records.specs.declared.Record.the-variants as rec
 use Rattle.log.specs.Line.{lineText}
 use Rattle.log.specs.Log.{chunks, readFrom, readings}
 use Rattle.log.specs.Fold.{over, texts, Carried, fresh, pastLine}
@@ -29,11 +19,10 @@ use Rattle.held.specs.declared.Held.{Held}
 use Rattle.walk.specs.Readings.{reader}
 use Rattle.walk.proofs.Turns.{one-at-most}
 use Rattle.listing_text.specs.Line.{plain, answered, answerText, headText, fixHeights, heightsOf, listingLine}
-use Rattle.listing_text.specs.Trailer.{isRefusal, forceAfter, nothing, counted, countStep}
-use Rattle.listing_text.specs.Trailer.{offsetText, figures, trailerText}
+use Rattle.listing_text.specs.Trailer.{isRefusal, forceAfter, nothing, counted, countStep, offsetText, figures}
+use Rattle.listing_text.specs.Trailer.{trailerText}
 use Rattle.listing_text.specs.Listing.{lineOf, listed, listingText, roomFor, HasRoom}
-use Rattle.listing_text.specs.declared.trailer.Offset.{Offset}
-use Rattle.listing_text.specs.declared.trailer.Trailer.{Trailer}
+use Rattle.listing_text.specs.declared.{trailer.Offset.Offset, trailer.Trailer.Trailer}
 
 -- a number below 10 ^ (k + 1) has at most k + 1 characters
 plain-le : (k n : ℕ) → n < 10 ^ suc k → length (plain n) ≤ suc k
@@ -66,7 +55,7 @@ heights-columns s l =
     finds-ok (omega arith)))
 
 -- a fix is short: each of its heights has a space in front
-fix-short : (s : List ℕ) → Finds (readB s) (λ r. Short (ok (rec.B r)))
+fix-short : (s : List ℕ) → Finds (readB s) (λ r. Short (ok (Record.B r)))
 unfolding readB ascii asciiIn readFix answered acceptedAs answerFix recordFix heightsOf fixHeights
 fix-short s =
     finds-guard _ (λ long. finds-guard _ (λ _.
@@ -92,16 +81,16 @@ kind-short b s =
 
 -- a refusal has a number of at most two characters
 refusal-le : (n : Refusal) → numberOf n ≤ 12
-refusal-le refusal.Syntax = omega arith
-refusal-le refusal.NotAscii = omega arith
-refusal-le refusal.UnreadableNumber = omega arith
-refusal-le refusal.OutOfRange = omega arith
-refusal-le refusal.BadExtension = omega arith
-refusal-le refusal.MissingExtension = omega arith
-refusal-le refusal.WrongLength = omega arith
-refusal-le refusal.NoDefinition = omega arith
-refusal-le refusal.OutsideLine = omega arith
-refusal-le refusal.NoRoom = omega arith
+refusal-le Refusal.Syntax = omega arith
+refusal-le Refusal.NotAscii = omega arith
+refusal-le Refusal.UnreadableNumber = omega arith
+refusal-le Refusal.OutOfRange = omega arith
+refusal-le Refusal.BadExtension = omega arith
+refusal-le Refusal.MissingExtension = omega arith
+refusal-le Refusal.WrongLength = omega arith
+refusal-le Refusal.NoDefinition = omega arith
+refusal-le Refusal.OutsideLine = omega arith
+refusal-le Refusal.NoRoom = omega arith
 
 -- an answer is short where what it finds is
 found-short : (m : Res Record) → Finds m (λ r. Short (ok r)) → Short m

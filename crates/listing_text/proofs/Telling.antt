@@ -1,13 +1,6 @@
 -- The loop over a log that counts and lists its lines.
-use Prim.Native.Nat.{ℕ, _+_, _≤_, _<_}
-use mathlib.Core.Path.{_≡_, refl, sym, _∙_}
-use mathlib.Core.List.{List}
-use native.Mathlib.Omega.{arith}
-use lib.ListN.{length, take}
-use lib.Seq.{take-all}
-use Rattle.text.specs.Res.{Res}
-use Rattle.text.specs.Word.{largest}
-use Rattle.text.proofs.Steps.{first, yes≤, holds}
+use Rattle.text.specs.Prelude.{ℕ, _+_, _≤_, _<_, _≡_, List, length, take, Res, largest}
+use Rattle.text.proofs.Prelude.{arith, refl, sym, _∙_, take-all, first, yes≤, holds}
 use Rattle.part.specs.Part.{partBytes}
 use Rattle.put.specs.Put.{Wrote}
 use Rattle.put.proofs.Writing.{then}

@@ -1,17 +1,10 @@
 -- A line of the listing. Fields are parted by one space, every printed line is closed by LF.
-use Rattle.text.specs.Line.{LF}
-use Prim.Native.Char.{code}
-use Prim.Native.Nat.{ℕ}
-use mathlib.Core.List.{List, [], _∷_, _++_}
-use Rattle.text.specs.Res.{Res, ok, no, pick, numberOf, _≤?_, _∧?_}
-use Rattle.text.specs.Line.{byte}
-use Rattle.text.specs.Number.{padded}
+use Rattle.text.specs.Prelude.{ℕ, code, List, [], _∷_, _++_, Res, ok, no, pick, numberOf, _≤?_, _∧?_, LF, byte, padded}
 use Rattle.b_record.specs.BRecord.{pressureText, gpsText}
 use Rattle.b_record.specs.declared.BRecord.{BRecord}
 use Rattle.records.specs.Record.{acceptedAs, answerFix}
-use Rattle.records.specs.declared.Record.{Record}
-use Rattle.records.specs.declared.MaybeFix.{MaybeFix}
-use Rattle.records.specs.declared.MaybeFix.the-variants.{Missing, Fix}
+use Rattle.records.specs.declared.{Record.Record, MaybeFix.MaybeFix, MaybeFix.the-variants.Missing}
+use Rattle.records.specs.declared.{MaybeFix.the-variants.Fix}
 
 -- A number in plain decimal.
 unfoldable pub plain : ℕ → List ℕ

@@ -1,8 +1,5 @@
 -- The listing of a log: a line for each reading of a fresh walk, and the trailer over them.
-use Prim.Native.Nat.{ℕ, _+_, _*_, _≤_}
-use mathlib.Core.List.{List, _++_}
-use lib.ListN.{length}
-use Rattle.text.specs.Word.{largest}
+use Rattle.text.specs.Prelude.{ℕ, _+_, _*_, _≤_, List, _++_, length, largest}
 use Rattle.log.specs.Log.{readings}
 use Rattle.log.specs.Fold.{over, texts}
 use Rattle.walk.specs.Readings.{Line-read, reader}

@@ -1,10 +1,5 @@
 -- The text of the paper's program.
-use Rattle.text.specs.Line.{LF}
-use Prim.Native.Nat.{ℕ, _≤_}
-use Prim.Native.Char.{code}
-use mathlib.Core.List.{List, [], _∷_}
-use lib.ListN.{length}
-use Rattle.text.specs.Res.{pick, _≤?_}
+use Rattle.text.specs.Prelude.{ℕ, _≤_, code, List, [], _∷_, length, pick, _≤?_, LF}
 use Rattle.listing_text.specs.Listing.{listingText}
 
 -- `too long`, closed by LF.

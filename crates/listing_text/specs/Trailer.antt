@@ -1,18 +1,11 @@
 -- The trailer: T, lines, lines answered 1 to 5, byte offset of the I line in force at the end, or `-`.
-use Rattle.text.specs.Line.{LF}
-use Prim.Native.Char.{code}
-use Prim.Native.Nat.{ℕ, _+_}
-use mathlib.Core.Bool.{Bool}
-use mathlib.Core.List.{List, [], _∷_, _++_}
-use Rattle.text.specs.Res.{Res, pick, _≤?_, _=?_, _∧?_}
-use Rattle.text.specs.Word.{largest}
+use Rattle.text.specs.Prelude.{ℕ, _+_, code, Bool, List, [], _∷_, _++_, Res, pick, _≤?_, _=?_, _∧?_, LF, begins}
+use Rattle.text.specs.Prelude.{largest}
 use Rattle.records.specs.declared.Record.{Record}
-use Rattle.text.specs.Line.{begins}
 use Rattle.walk.specs.Readings.{Line-read}
 use Rattle.listing_text.specs.Line.{plain, answered}
-use Rattle.listing_text.specs.declared.trailer.Offset.{Offset}
-use Rattle.listing_text.specs.declared.trailer.Offset.the-variants.{Missing, At}
-use Rattle.listing_text.specs.declared.trailer.Trailer.{Trailer}
+use Rattle.listing_text.specs.declared.{trailer.Offset.Offset, trailer.Offset.the-variants.Missing}
+use Rattle.listing_text.specs.declared.{trailer.Offset.the-variants.At, trailer.Trailer.Trailer}
 
 -- An answer from 1 to 5.
 unfoldable pub isRefusal : Res Record → Bool

@@ -1,14 +1,10 @@
 -- A loop over a log, or over a piece of one: at each place it has made what the lines before that place make.
-use Prim.Native.Nat.{ℕ, _+_, _-_, _≤_, _<_}
-use mathlib.Core.Path.{_≡_, refl, sym, ap, _∙_}
-use mathlib.Core.Bool.{true}
-use mathlib.Core.List.{List, [], _∷_, _++_, append-nil}
+use Rattle.text.specs.Prelude.{ℕ, _+_, _-_, _≤_, _<_, _≡_, true, List, [], _∷_, _++_, length, take, drop, _≤?_}
+use Rattle.text.proofs.Prelude.{arith, refl, sym, ap, _∙_, append-nil, length-drop, length-take, drop-of-length-le}
+use Rattle.text.proofs.Prelude.{take-all, length-take-le, is≤, isnt≤}
 use mathlib.Core.Option.{Option, none, some}
-use native.Mathlib.Omega.{arith}
-use lib.ListN.{length, take, drop, length-drop, length-take, take-append-drop, drop-of-length-le}
-use lib.Seq.{take-add, take-all, length-take-le}
-use Rattle.text.specs.Res.{_≤?_}
-use Rattle.text.proofs.Steps.{is≤, isnt≤}
+use lib.ListN.{take-append-drop}
+use lib.Seq.{take-add}
 use Rattle.part.specs.Part.{bytesOf, partBytes}
 use Rattle.log.specs.Line.{width, lineText, cutAt}
 use Rattle.log.specs.Log.{chunks, closed, Reader, LineRead, readFrom, readings}

@@ -1,13 +1,8 @@
 -- The loop over the lines of a piece, which takes them into lent bytes: what is left to take, from here, makes up the
 -- whole.
-use Prim.Native.Nat.{ℕ, _+_, _-_, _≤_, _<_}
-use mathlib.Core.Path.{_≡_, refl, sym, ap, _∙_}
-use mathlib.Core.List.{List, []}
-use native.Mathlib.Omega.{arith}
-use lib.ListN.{length, drop, length-drop, drop-of-length-le}
-use lib.Seq.{drop-drop, length-take-le}
-use Rattle.text.specs.Res.{pick, _≤?_}
-use Rattle.text.proofs.Steps.{first, second, yes≤, no≤}
+use Rattle.text.specs.Prelude.{ℕ, _+_, _-_, _≤_, _<_, _≡_, List, [], length, drop, pick, _≤?_}
+use Rattle.text.proofs.Prelude.{arith, refl, sym, ap, _∙_, length-drop, drop-of-length-le, drop-drop, length-take-le}
+use Rattle.text.proofs.Prelude.{first, second, yes≤, no≤}
 use Rattle.part.specs.Part.{bytesOf, partBytes}
 use Rattle.log.specs.Line.{width, lineText, cutAt}
 use Rattle.log.specs.Log.{chunks, Reader, LineRead}

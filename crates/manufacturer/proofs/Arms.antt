@@ -1,20 +1,12 @@
 -- The arms of a `match` over codes: what one has found, and what is known past all of them.
-use Prim.Native.Nat.{ℕ, _/_, _%_, _<_}
-use native.Mathlib.Omega.{arith}
-use mathlib.Core.Path.{_≡_, refl, sym, ap, _∙_, subst}
-use mathlib.Core.Bool.{Bool, true, false}
-use mathlib.Core.List.{List, [], _∷_}
+use Rattle.text.specs.Prelude.{ℕ, _/_, _%_, _<_, _≡_, Bool, true, false, List, [], _∷_}
+use Rattle.text.proofs.Prelude.{arith, refl, sym, ap, _∙_, subst, second}
 use mathlib.Core.Option.{Option, none, some}
-use Rattle.text.proofs.Steps.{second}
 use Rattle.field.specs.declared.Mnemonic.{Mnemonic}
 use Rattle.manufacturer.specs.Maker.{letterOf, tripleOf, known, firstOf, letterMaker, tripleMaker, tripleNumber}
 use Rattle.manufacturer.proofs.Codes.{is-letter, is-triple}
-use Rattle.manufacturer.specs.declared.Manufacturer.{Manufacturer}
-use Rattle.manufacturer.specs.declared.Manufacturer.the-variants as maker
-use Rattle.manufacturer.specs.declared.MaybeLetter.{MaybeLetter}
-use Rattle.manufacturer.specs.declared.MaybeLetter.the-variants as letter
-use Rattle.manufacturer.specs.declared.MaybeTriple.{MaybeTriple}
-use Rattle.manufacturer.specs.declared.MaybeTriple.the-variants as triple
+use Rattle.manufacturer.specs.declared.{Manufacturer.Manufacturer, MaybeLetter.MaybeLetter}
+use Rattle.manufacturer.specs.declared.{MaybeTriple.MaybeTriple}
 
 -- in the arm that has found m to be n, f says of m what it says of n
 pub in-arm : {A B : Type 0} (f : A → B) {m n : A} {x : B} → m ≡ n → x ≡ f n → x ≡ f m
@@ -65,17 +57,17 @@ module _ {x : ℕ} {key : Manufacturer → Option ℕ} {test : Manufacturer → 
   arms-unread A (m ∷ ms) r = second m (arm-fails A (key m) (test m) (tells m) (past-arms ms r)) (arms-unread (Past x A (key m)) ms r)
 
 abbrev letter-key : MaybeLetter → Option ℕ
-letter-key letter.Missing = none
-letter-key (letter.Letter k) = some k
+letter-key MaybeLetter.Missing = none
+letter-key (MaybeLetter.Letter k) = some k
 
 abbrev triple-key : MaybeTriple → Option ℕ
-triple-key triple.Missing = none
-triple-key (triple.Triple u) = some (tripleNumber u)
+triple-key MaybeTriple.Missing = none
+triple-key (MaybeTriple.Triple u) = some (tripleNumber u)
 
-pub letter-unknown : {l : ℕ} → Rest l (λ m. letter-key (letterOf m)) Unit known → maker.UnknownSingle l ≡ letterMaker l
+pub letter-unknown : {l : ℕ} → Rest l (λ m. letter-key (letterOf m)) Unit known → Manufacturer.UnknownSingle l ≡ letterMaker l
 unfolding letterMaker
 letter-unknown r = arms-unread (λ m h. ap letter-key (is-letter (letterOf m) h)) _ Unit known r
 
-pub triple-unknown : {n : ℕ} {t : Mnemonic} → n ≡ tripleNumber t → Rest n (λ m. triple-key (tripleOf m)) Unit known → maker.UnknownTriple t ≡ tripleMaker t
+pub triple-unknown : {n : ℕ} {t : Mnemonic} → n ≡ tripleNumber t → Rest n (λ m. triple-key (tripleOf m)) Unit known → Manufacturer.UnknownTriple t ≡ tripleMaker t
 unfolding tripleMaker
 triple-unknown e r = arms-unread (λ m h. ap triple-key (is-triple (tripleOf m) h) ∙ ap some (sym e)) _ Unit known r

@@ -1,11 +1,8 @@
 -- What the paper's program writes.
-use Prim.Native.Nat.{ℕ, _≤_}
-use mathlib.Core.Path.{_≡_}
-use mathlib.Core.List.{List, []}
-use lib.ListN.{length, take}
+use Rattle.text.specs.Prelude.{ℕ, _≤_, _≡_, List, [], length, take}
 use Rattle.listing_text.specs.Paper.{paperText}
-use Rattle.files.specs.declared.input.Filled.{Filled}
-use Rattle.files.specs.declared.input.Filled.the-variants.{Ended, Full, Failed}
+use Rattle.files.specs.declared.{input.Filled.Filled, input.Filled.the-variants.Ended, input.Filled.the-variants.Full}
+use Rattle.files.specs.declared.{input.Filled.the-variants.Failed}
 
 -- The text of all that was read; bytes that are full are more than a log may have; where a read failed, nothing.
 unfoldable pub answerText : Filled → List ℕ → List ℕ

@@ -1,18 +1,12 @@
 -- Printers: three laws prove them all.
-use mathlib.Core.Path.{_≡_, refl, sym, _∙_}
-use mathlib.Core.List.{List, _++_}
-use Prim.Native.Nat.{ℕ, _≤_, _<_}
+use Rattle.text.specs.Prelude.{ℕ, _≤_, _<_, _≡_, List, _++_, length, drop, Res, ok, no, bind, guard, pick}
+use Rattle.text.proofs.Prelude.{arith, refl, sym, _∙_, sets, yes≤, no≤}
 use native.Mathlib.Nat.{zero-add}
-use native.Mathlib.Omega.{arith}
-use lib.ListN.{length, drop}
-use lib.Seq.{sets, sets-eq}
-use Rattle.text.specs.Res.{Res, ok, no, bind, guard, pick}
+use lib.Seq.{sets-eq}
 use Rattle.put.specs.Put.{Wrote}
 use Rattle.print.specs.Print.{answerTo, leftBy, Prints}
-use Rattle.text.specs.declared.refusal.Refusal.{Refusal}
-use Rattle.text.specs.declared.refusal.Refusal.the-variants.{NoRoom}
-use Rattle.print.specs.declared.printed.Printed.the-variants.{Written, Refused}
-use Rattle.text.proofs.Steps.{yes≤, no≤}
+use Rattle.text.specs.declared.{refusal.Refusal.Refusal, refusal.Refusal.the-variants.NoRoom}
+use Rattle.print.specs.declared.{printed.Printed.the-variants.Written, printed.Printed.the-variants.Refused}
 
 -- there is no text
 pub refused : {m : Res (List ℕ)} {n : Refusal} (b : List ℕ) → no n ≡ m → Prints m b b (Refused n)

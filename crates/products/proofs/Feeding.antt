@@ -1,13 +1,7 @@
 -- The loop that takes the lines of a piece, as far as there is room for their text.
-use Prim.Native.Nat.{ℕ, suc, _+_, _≤_, _<_}
-use mathlib.Core.Path.{_≡_, refl, sym, ap, _∙_}
-use mathlib.Core.Bool.{Bool, true, false}
-use mathlib.Core.List.{List, [], _∷_, _++_, append-nil}
-use native.Mathlib.Omega.{arith}
-use lib.ListN.{length, take, set}
-use lib.Seq.{sets}
-use Rattle.text.specs.Word.{largest}
-use Rattle.text.proofs.Steps.{yes≤, is≤, and, both}
+use Rattle.text.specs.Prelude.{ℕ, suc, _+_, _≤_, _<_, _≡_, Bool, true, false, List, [], _∷_, _++_, length, take, set}
+use Rattle.text.specs.Prelude.{largest}
+use Rattle.text.proofs.Prelude.{arith, refl, sym, ap, _∙_, append-nil, sets, yes≤, is≤, both, and}
 use Rattle.part.specs.Part.{partBytes, bytesOf}
 use Rattle.put.specs.Put.{Wrote}
 use Rattle.put.proofs.Writing.{wrote-length, wrote-nothing, then}
@@ -31,9 +25,7 @@ use Rattle.listing_text.specs.declared.trailer.Trailer.{Trailer}
 use Rattle.listing_text.proofs.Telling.{tallied-is, one-refused}
 use Rattle.products.specs.Product.{productLine, textOf}
 use Rattle.products.specs.Feed.{view, isReady, FedOf, Feeds}
-use Rattle.products.specs.declared.Product.{Product}
-use Rattle.products.specs.declared.Carried.{Carried}
-use Rattle.products.specs.declared.Fed.{Fed}
+use Rattle.products.specs.declared.{Product.Product, Carried.Carried, Fed.Fed}
 
 -- A line raises the count of lines by one.
 pub one-line : (t : Trailer) (x : Line-read) → countStep t x .lines ≤ t .lines + 1

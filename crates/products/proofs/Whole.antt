@@ -1,11 +1,6 @@
 -- Whatever the pieces of a log were, what is written for them is the text of the whole log.
-use Prim.Native.Nat.{ℕ, _+_, _≤_}
-use mathlib.Core.Path.{_≡_, refl, sym, ap, _∙_}
-use mathlib.Core.Bool.{true}
-use mathlib.Core.List.{List, _++_, append-nil}
-use native.Mathlib.Omega.{arith}
-use lib.Seq.{length-take-le}
-use Rattle.text.specs.Word.{largest}
+use Rattle.text.specs.Prelude.{ℕ, _+_, _≤_, _≡_, true, List, _++_, largest}
+use Rattle.text.proofs.Prelude.{arith, refl, sym, ap, _∙_, append-nil, length-take-le}
 use Rattle.log.specs.Fold as fold
 use Rattle.log.specs.Pieces.{joined, Whole, fedAll, textsAll}
 use Rattle.log.proofs.Pieces.{in-pieces as pieces, place-is}
@@ -22,10 +17,8 @@ use Rattle.fields_text.specs.Line.{fieldsOf, fieldsText}
 use Rattle.products.specs.Product.{productLine, textOf, closing, productText}
 use Rattle.products.specs.Feed.{fresh, view, isReady, Feeds}
 use Rattle.products.specs.Whole.{Rows, none, next, InPieces}
-use Rattle.products.specs.declared.Product.{Product}
-use Rattle.products.specs.declared.Product.the-variants.{Listing, Fields}
-use Rattle.products.specs.declared.Carried.{Carried}
-use Rattle.products.specs.declared.Fed.{Fed}
+use Rattle.products.specs.declared.{Product.Product, Product.the-variants.Listing, Product.the-variants.Fields}
+use Rattle.products.specs.declared.{Carried.Carried, Fed.Fed}
 use Rattle.products.proofs.Feeding.{one-line, within-64-bits, so-ready, called}
 
 -- The product of a listing is the listing.

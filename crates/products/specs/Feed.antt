@@ -1,11 +1,5 @@
 -- What is written of a piece of a log, and what is carried on.
-use Prim.Native.Nat.{ℕ, _+_}
-use mathlib.Core.Path.{_≡_}
-use mathlib.Core.Bool.{Bool, true, false}
-use mathlib.Core.List.{List}
-use lib.ListN.{length}
-use Rattle.text.specs.Res.{_≤?_, _∧?_}
-use Rattle.text.specs.Word.{largest}
+use Rattle.text.specs.Prelude.{ℕ, _+_, _≡_, Bool, true, false, List, length, _≤?_, _∧?_, largest}
 use Rattle.log.specs.Fold as fold
 use Rattle.log.specs.Taking.{Took}
 use Rattle.held.specs.declared.Held.{Held}
@@ -14,9 +8,7 @@ use Rattle.walk.specs.Readings.{reader}
 use Rattle.listing_text.specs.Trailer.{nothing, countStep}
 use Rattle.listing_text.specs.declared.trailer.Trailer.{Trailer}
 use Rattle.products.specs.Product.{textOf}
-use Rattle.products.specs.declared.Product.{Product}
-use Rattle.products.specs.declared.Carried.{Carried}
-use Rattle.products.specs.declared.Fed.{Fed}
+use Rattle.products.specs.declared.{Product.Product, Carried.Carried, Fed.Fed}
 
 -- Before the first piece.
 unfoldable pub fresh : Carried

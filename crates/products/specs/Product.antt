@@ -1,7 +1,5 @@
 -- What the desk writes of a log: its listing, or the fields of its lines.
-use Prim.Native.Nat.{ℕ}
-use mathlib.Core.List.{List, [], _++_}
-use Rattle.text.specs.Res.{Res}
+use Rattle.text.specs.Prelude.{ℕ, List, [], _++_, Res}
 use Rattle.records.specs.declared.Record.{Record}
 use Rattle.log.specs.Log.{readings}
 use Rattle.log.specs.Fold.{over, texts}
@@ -11,8 +9,7 @@ use Rattle.listing_text.specs.Line.{listingLine}
 use Rattle.listing_text.specs.Trailer.{nothing, countStep, trailerText}
 use Rattle.listing_text.specs.declared.trailer.Trailer.{Trailer}
 use Rattle.fields_text.specs.Line.{fieldsLine}
-use Rattle.products.specs.declared.Product.{Product}
-use Rattle.products.specs.declared.Product.the-variants.{Listing, Fields}
+use Rattle.products.specs.declared.{Product.Product, Product.the-variants.Listing, Product.the-variants.Fields}
 
 -- Line n with the text s, answered m, at which h is in force, with the names asked for.
 unfoldable pub productLine : Product → List ℕ → ℕ → List ℕ → Res Record → Held → List ℕ

@@ -1,19 +1,12 @@
 -- Whatever the pieces of a log were, what is written for them is the text of the whole log.
-use Prim.Native.Nat.{ℕ, _+_, _≤_}
-use mathlib.Core.Path.{_≡_}
-use mathlib.Core.Bool.{true}
-use mathlib.Core.List.{List, [], _∷_, _++_}
-use lib.ListN.{take}
-use Rattle.text.specs.Word.{largest}
+use Rattle.text.specs.Prelude.{ℕ, _+_, _≤_, _≡_, true, List, [], _∷_, _++_, take, largest}
 use Rattle.log.specs.Pieces.{joined, Whole}
 use Rattle.listing_text.specs.Listing.{listingText}
 use Rattle.fields_text.specs.Line.{fieldsText}
 use Rattle.products.specs.Product.{closing, productText}
 use Rattle.products.specs.Feed.{fresh, isReady, Feeds}
-use Rattle.products.specs.declared.Product.{Product}
-use Rattle.products.specs.declared.Product.the-variants.{Listing, Fields}
-use Rattle.products.specs.declared.Carried.{Carried}
-use Rattle.products.specs.declared.Fed.{Fed}
+use Rattle.products.specs.declared.{Product.Product, Product.the-variants.Listing, Product.the-variants.Fields}
+use Rattle.products.specs.declared.{Carried.Carried, Fed.Fed}
 
 module _ (p : Product) (names : List ℕ) where
   -- Calls one after the other, from c to c′: the bytes that were taken at each, and the texts, in a row.

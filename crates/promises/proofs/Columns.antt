@@ -1,15 +1,9 @@
 -- Columns of a text, and what is found in them.
-use Prim.Native.Nat.{ℕ, _+_, _-_, _<_}
-use mathlib.Core.Path.{_≡_, refl, sym}
-use mathlib.Core.List.{List, [], _∷_, _++_}
-use native.Mathlib.Omega.{arith}
+use Rattle.text.specs.Prelude.{ℕ, _+_, _-_, _<_, _≡_, List, [], _∷_, _++_, length, drop, Res, byte, cut, columns}
+use Rattle.text.proofs.Prelude.{arith, refl, sym, length-drop, drop-of-length-le, take-all, drop-cons, drop-drop, is=}
 use native.Mathlib.Nat.{add-sub-cancel-left}
 use native.Mathlib.Numerals.{add-one}
-use lib.ListN.{length, drop, length-drop, take-append-drop, drop-of-length-le}
-use lib.Seq.{drop-drop, drop-cons, take-all}
-use Rattle.text.specs.Res.{Res}
-use Rattle.text.specs.Line.{byte, cut, columns}
-use Rattle.text.proofs.Steps.{is=}
+use lib.ListN.{take-append-drop}
 use Rattle.text.proofs.Finds.{Finds, finds-guard}
 use Rattle.field.specs.Field.{sized, asciiIn, ascii, field}
 

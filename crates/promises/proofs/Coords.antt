@@ -1,20 +1,13 @@
 -- Coordinates and positions come back.
-use Prim.Native.Nat.{ℕ, _+_}
-use mathlib.Core.Path.{_≡_, refl, sym}
-use mathlib.Core.Bool.{Bool}
-use mathlib.Core.List.{List, [], _∷_, _++_}
+use Rattle.text.specs.Prelude.{ℕ, _+_, _≡_, Bool, List, [], _∷_, _++_, length, drop, _∨?_, byte, cut}
+use Rattle.text.proofs.Prelude.{arith, refl, sym, is=}
 use native.Mathlib.Nat.{zero-add}
-use native.Mathlib.Omega.{arith}
-use lib.ListN.{length, drop}
-use Rattle.text.specs.Res.{_∨?_}
-use Rattle.text.specs.Line.{byte, cut}
-use Rattle.text.proofs.Steps.{is=}
 use Rattle.text.proofs.Finds.{Finds, finds-ok, finds-no, finds-bind, finds-guard, finds-pick}
 use Rattle.coord.specs.Coord.{compassLetter, signOf, coordOf, lettered, readCoord, coordText, latitude, longitude}
 use Rattle.coord.specs.Coord.{latitudeIn, longitudeIn, latitudeText, longitudeText, readBoth, readPosition}
 use Rattle.coord.specs.Coord.{positionText}
-use Rattle.coord.specs.declared.Compass.{Compass}
-use Rattle.coord.specs.declared.Compass.the-variants.{North, South, East, West}
+use Rattle.coord.specs.declared.{Compass.Compass, Compass.the-variants.North, Compass.the-variants.South}
+use Rattle.coord.specs.declared.{Compass.the-variants.East, Compass.the-variants.West}
 use Rattle.promises.specs.Odd.{coordPlus, positionPlus}
 use Rattle.promises.proofs.Columns.{cut-joined, last-byte, finds-columns, finds-sized, finds-field}
 use Rattle.promises.proofs.Copies.{Copy, copy-append, copy-columns, copy-rest, copy-last, finds-copy}

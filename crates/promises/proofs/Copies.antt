@@ -1,15 +1,9 @@
 -- A text and what is printed for it, put together column by column: one law for each way of putting texts together, so
 -- that a proof has the shape of its printer.
-use Prim.Native.Nat.{ℕ, _+_, _<_}
-use mathlib.Core.Path.{_≡_, refl, sym, ap, _∙_}
-use mathlib.Core.Bool.{Bool, false}
-use mathlib.Core.List.{List, [], _∷_, _++_}
-use native.Mathlib.Omega.{arith}
-use lib.ListN.{length, take, drop, length-append}
-use lib.Seq.{take-at, drop-at}
-use Rattle.text.specs.Res.{Res, pick, _∨?_}
-use Rattle.text.specs.Line.{byte, cut}
-use Rattle.text.proofs.Steps.{neither}
+use Rattle.text.specs.Prelude.{ℕ, _+_, _<_, _≡_, Bool, false, List, [], _∷_, _++_, length, take, drop, Res, pick, _∨?_}
+use Rattle.text.specs.Prelude.{byte, cut}
+use Rattle.text.proofs.Prelude.{arith, refl, sym, ap, _∙_, length-append, take-at, neither}
+use lib.Seq.{drop-at}
 use Rattle.text.proofs.Finds.{Finds, finds-map}
 use Rattle.promises.proofs.Columns.{cut-joined, joined-byte, to-end}
 

@@ -1,13 +1,6 @@
 -- B lines come back.
-use Prim.Native.Nat.{ℕ, _≤_}
-use mathlib.Core.Path.{_≡_, refl, sym}
-use mathlib.Core.List.{List, _++_}
-use native.Mathlib.Omega.{arith}
-use lib.ListN.{length, drop}
-use Rattle.text.specs.Res.{_∨?_}
-use Rattle.text.specs.Line.{byte, cut}
-use Rattle.text.specs.Number.{signed}
-use Rattle.text.proofs.Steps.{is≤, is=, on}
+use Rattle.text.specs.Prelude.{ℕ, _≤_, _≡_, List, _++_, length, drop, _∨?_, byte, cut, signed}
+use Rattle.text.proofs.Prelude.{arith, refl, sym, on, is≤, is=}
 use Rattle.text.proofs.Finds.{Finds, finds-ok, finds-no, finds-bind, finds-guard, finds-pick}
 use Rattle.field.specs.Field.{asciiIn, ascii}
 use Rattle.b_record.specs.BRecord.{validLetter, validOf, readHeights, readFix, readB, tailText, bBody, bText}

@@ -1,18 +1,12 @@
 -- H lines always come back.
-use Prim.Native.Nat.{ℕ, _+_, _≤_, _<_}
-use mathlib.Core.Path.{_≡_, refl, sym, ap, _∙_}
-use mathlib.Core.Bool.{true, false}
-use mathlib.Core.List.{List, [], _∷_, _++_, append-assoc}
-use native.Mathlib.Omega.{arith}
+use Rattle.text.specs.Prelude.{ℕ, _+_, _≤_, _<_, _≡_, true, false, List, [], _∷_, _++_, length, drop, ok, bind, pick}
+use Rattle.text.specs.Prelude.{_=?_, byte, cut}
+use Rattle.text.proofs.Prelude.{arith, refl, sym, ap, _∙_, append-assoc, length-drop, getD-drop, on, first, yes≤, is≤}
+use Rattle.text.proofs.Prelude.{is=, both}
 use native.Mathlib.Nat.{add-sub-cancel-left}
-use lib.ListN.{length, drop, length-drop}
-use lib.Seq.{getD-drop}
 use borrow.Author.Tests.{eqb-false}
-use Rattle.text.specs.Res.{ok, bind, pick, _=?_}
-use Rattle.text.specs.Line.{byte, cut}
 use Rattle.part.specs.Part.{bytesOf, findMaybe, textOf, partText, maybeText}
 use Rattle.part.specs.declared.MaybePart.the-variants.{Missing}
-use Rattle.text.proofs.Steps.{is≤, is=, yes≤, both, on, first}
 use Rattle.text.proofs.Finds.{Finds, finds-ok, finds-guard}
 use Rattle.field.specs.Field.{isAscii, asciiIn}
 use Rattle.h_record.specs.HRecord.{sourceByte, sourceOf, colonIn, named, readH, charText, nameText, dataText, hBody}

@@ -1,16 +1,8 @@
 -- Lines of every kind come back, exactly where they are not odd.
-use Prim.Native.Nat.{ℕ}
-use mathlib.Core.Path.{_≡_, refl, sym, ap, _∙_}
-use mathlib.Core.Bool.{false}
-use mathlib.Core.List.{List}
-use native.Mathlib.Omega.{arith}
+use Rattle.text.specs.Prelude.{ℕ, _≡_, false, List, length, Res, ok, bind, guard, pick, _=?_, _∨?_, byte}
+use Rattle.text.proofs.Prelude.{arith, refl, sym, ap, _∙_, take-all, on, pass, yes≤, no≤, is=, never}
 use native.Mathlib.Nat.{le-refl}
-use lib.ListN.{length}
-use lib.Seq.{take-all}
-use Rattle.text.specs.Res.{Res, ok, bind, guard, pick, _=?_, _∨?_}
-use Rattle.text.specs.Line.{byte}
 use Rattle.part.specs.Part.{bytesOf, findPart, textOf, partText}
-use Rattle.text.proofs.Steps.{is=, yes≤, no≤, never, on, pass}
 use Rattle.text.proofs.Finds.{Finds, finds-ok, finds-bind, finds-guard}
 use Rattle.print.specs.Print.{answerTo, leftBy}
 use Rattle.table.specs.Table.{readTable, tableRead, tableText}

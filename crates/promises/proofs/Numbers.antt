@@ -1,19 +1,12 @@
 -- Numbers come back: what is read from w columns prints in w columns, and as it was written exactly where it was
 -- written with no plus and is not minus zero.
-use Prim.Native.Nat.{ℕ, suc, _+_, _-_, _≤_}
-use mathlib.Core.Path.{_≡_, refl, sym, ap, _∙_}
-use mathlib.Core.Bool.{false}
-use mathlib.Core.List.{List}
-use native.Mathlib.Omega.{arith}
-use lib.ListN.{length}
-use lib.IntN.{ℤ, pos, negsuc}
-use Rattle.text.specs.Res.{pick, _=?_, _∧?_}
-use Rattle.text.specs.Number.{readNat, readInt, padded, signed, zeros, plus, minusZero}
-use Rattle.text.proofs.Steps.{neither, fails}
+use Rattle.text.specs.Prelude.{ℕ, suc, _+_, _-_, _≤_, _≡_, false, List, length, ℤ, pos, negsuc, pick, _=?_, _∧?_, cut}
+use Rattle.text.specs.Prelude.{columns, readNat, readInt, zeros, plus, padded, signed}
+use Rattle.text.proofs.Prelude.{arith, refl, sym, ap, _∙_, fails, neither}
+use Rattle.text.specs.Number.{minusZero}
 use Rattle.text.proofs.Finds.{Finds}
 use Rattle.text.proofs.Decimal.{value-padded, zeros-value}
 use Rattle.text.proofs.RoundTrip.{first-padded, padded-read, signed-read, nat-columns, int-columns}
-use Rattle.text.specs.Line.{cut, columns}
 use Rattle.text.proofs.Lines.{cut-length}
 use Rattle.log.proofs.Ends.{by-test}
 use Rattle.promises.specs.Odd.{signedOdd}

@@ -1,16 +1,9 @@
 -- The texts of a line's parts, and what a whole line is printed as.
-use Prim.Native.Nat.{ℕ, _+_, _≤_}
-use mathlib.Core.Path.{_≡_, refl, sym, ap}
-use mathlib.Core.Bool.{Bool, false}
-use mathlib.Core.List.{List}
-use native.Mathlib.Omega.{arith}
+use Rattle.text.specs.Prelude.{ℕ, _+_, _≤_, _≡_, Bool, false, List, length, drop, Res, ok, bind, pick, _≤?_, cut}
+use Rattle.text.proofs.Prelude.{arith, refl, sym, ap, drop-of-length-le, on, pass, yes≤, is≤}
 use native.Mathlib.Nat.{add-sub-cancel-left}
-use lib.ListN.{length, drop, drop-of-length-le}
-use Rattle.text.specs.Res.{Res, ok, bind, pick, _≤?_}
 use Rattle.part.specs.Part.{bytesOf, findPart, findMaybe, textOf, partText, maybeText, restFrom, nameFrom}
-use Rattle.text.proofs.Steps.{on, pass, yes≤, is≤}
 use Rattle.text.proofs.Lines.{cut-rest}
-use Rattle.text.specs.Line.{cut}
 use Rattle.log.proofs.Ends.{by-test}
 use Rattle.promises.proofs.Copies.{Copy}
 

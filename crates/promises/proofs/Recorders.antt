@@ -1,19 +1,11 @@
 -- A lines come back where they have a triple.
-use Prim.Native.Nat.{ℕ, _+_, _≤_}
-use mathlib.Core.Path.{_≡_, ap}
-use mathlib.Core.Bool.{true}
-use mathlib.Core.List.{List, [], _∷_, _++_}
-use native.Mathlib.Omega.{arith}
-use lib.ListN.{length, drop, length-append, length-drop}
-use Rattle.text.specs.Res.{ok}
-use Rattle.text.specs.Line.{byte}
-use Rattle.text.proofs.Steps.{is≤, both, never, on}
+use Rattle.text.specs.Prelude.{ℕ, _+_, _≤_, _≡_, true, List, [], _∷_, _++_, length, drop, ok, byte}
+use Rattle.text.proofs.Prelude.{arith, ap, length-drop, length-append, on, is≤, both, never}
 use Rattle.text.proofs.Finds.{Finds, finds-ok, finds-guard, finds-pick}
 use Rattle.field.specs.Field.{asciiIn, mnemonicText}
 use Rattle.manufacturer.specs.Maker.{letterMaker, tripleMaker, tripleOf}
-use Rattle.manufacturer.specs.declared.Manufacturer.{Manufacturer}
-use Rattle.manufacturer.specs.declared.MaybeTriple.{MaybeTriple}
-use Rattle.manufacturer.specs.declared.MaybeTriple.the-variants.{Missing, Triple}
+use Rattle.manufacturer.specs.declared.{Manufacturer.Manufacturer, MaybeTriple.MaybeTriple}
+use Rattle.manufacturer.specs.declared.{MaybeTriple.the-variants.Missing, MaybeTriple.the-variants.Triple}
 use Rattle.manufacturer.proofs.Codes.{triple-read}
 use Rattle.a_record.specs.ARecord.{aNew, aOf, triple, letterForm, longForm, readTriple, readA, tripleText, aBody, aText}
 use Rattle.promises.proofs.Columns.{cut-joined, joined-byte}

@@ -1,14 +1,7 @@
 -- I and J lines come back.
-use Prim.Native.Nat.{ℕ, zero, suc, _+_, _-_, _*_, _/_, _≤_}
-use mathlib.Core.Path.{_≡_, refl, sym, ap}
-use mathlib.Core.List.{List, [], _∷_, _++_}
-use native.Mathlib.Omega.{arith}
-use lib.ListN.{length, drop, replicate, length-drop}
-use lib.Seq.{take-at}
-use Rattle.text.specs.Res.{ok}
-use Rattle.text.specs.Line.{byte, cut, columns}
-use Rattle.text.specs.Number.{readNat, padded, plus}
-use Rattle.text.proofs.Steps.{is≤, is=, yes≤, pass}
+use Rattle.text.specs.Prelude.{ℕ, zero, suc, _+_, _-_, _*_, _/_, _≤_, _≡_, List, [], _∷_, _++_, length, drop, replicate}
+use Rattle.text.specs.Prelude.{ok, byte, cut, columns, readNat, plus, padded}
+use Rattle.text.proofs.Prelude.{arith, refl, sym, ap, length-drop, take-at, pass, yes≤, is≤, is=}
 use Rattle.text.proofs.Finds.{Finds, finds-map, finds-ok, finds-bind, finds-guard}
 use Rattle.field.specs.Field.{asciiIn, ascii, mnemonicText}
 use Rattle.text.proofs.Lines.{cut-length}

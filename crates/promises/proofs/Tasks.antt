@@ -1,14 +1,7 @@
 -- C lines come back.
-use Prim.Native.Nat.{ℕ, _≤_}
-use mathlib.Core.Path.{_≡_, refl, sym, ap, _∙_}
-use mathlib.Core.Bool.{true}
-use mathlib.Core.List.{List, [], _∷_, _++_}
-use native.Mathlib.Omega.{arith}
-use lib.ListN.{length, drop, replicate}
-use Rattle.text.specs.Res.{pick, _=?_, _∨?_}
-use Rattle.text.specs.Line.{byte, cut}
-use Rattle.text.specs.Number.{padded, signed, zeros, plus}
-use Rattle.text.proofs.Steps.{is≤, is=, both, on}
+use Rattle.text.specs.Prelude.{ℕ, _≤_, _≡_, true, List, [], _∷_, _++_, length, drop, replicate, pick, _=?_, _∨?_, byte}
+use Rattle.text.specs.Prelude.{cut, zeros, plus, padded, signed}
+use Rattle.text.proofs.Prelude.{arith, refl, sym, ap, _∙_, on, is≤, is=, both}
 use Rattle.text.proofs.Finds.{Finds, finds-ok, finds-bind, finds-guard, finds-pick}
 use Rattle.field.specs.Field.{asciiIn}
 use Rattle.text.proofs.Lines.{cut-length}

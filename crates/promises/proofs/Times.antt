@@ -1,10 +1,6 @@
 -- Times and dates come back.
-use Prim.Native.Nat.{ℕ}
-use mathlib.Core.Path.{_≡_, refl}
-use mathlib.Core.List.{List}
-use native.Mathlib.Omega.{arith}
-use lib.ListN.{length}
-use Rattle.text.specs.Res.{Res}
+use Rattle.text.specs.Prelude.{ℕ, _≡_, List, length, Res}
+use Rattle.text.proofs.Prelude.{arith, refl}
 use Rattle.text.proofs.Finds.{Finds, finds-ok, finds-bind, finds-guard}
 use Rattle.datetime.specs.Three.{readThree, threeText}
 use Rattle.datetime.specs.Time.{timeOf, readTime, timeText}

@@ -1,15 +1,7 @@
 -- A fresh walk reads every line of the log once, in order, before it is done; and so does the desk's reader.
-use Prim.Native.Nat.{ℕ, zero, suc, _+_, _-_, _≤_, _<_}
-use mathlib.Core.Path.{_≡_, refl, sym, ap, _∙_}
-use mathlib.Core.Bool.{Bool, true, false}
-use mathlib.Core.List.{List}
-use native.Mathlib.Omega.{arith}
-use denote.Ref.{RefT, now}
-use lib.ListN.{length, take, drop}
-use lib.Seq.{take-all}
-use Rattle.text.specs.Res.{pick, _≤?_, _∧?_}
-use Rattle.text.specs.Word.{largest}
-use Rattle.text.proofs.Steps.{second, no≤, is≤, isnt≤, fails}
+use Rattle.text.specs.Prelude.{ℕ, zero, suc, _+_, _-_, _≤_, _<_, _≡_, Bool, true, false, List, length, take, drop, RefT}
+use Rattle.text.specs.Prelude.{now, pick, _≤?_, _∧?_, largest}
+use Rattle.text.proofs.Prelude.{arith, refl, sym, ap, _∙_, take-all, second, no≤, is≤, isnt≤, fails}
 use Rattle.part.specs.Part.{bytesOf}
 use Rattle.records.specs.Record.{readLine}
 use Rattle.log.specs.Line.{cutAt}
@@ -21,9 +13,7 @@ use Rattle.held.specs.declared.Held.{Held}
 use Rattle.walk.specs.Cursor.{start, past, nextOf}
 use Rattle.walk.specs.Walk.{fresh, stepTo, stepOf}
 use Rattle.walk.specs.Readings.{reader, readBy, walked}
-use Rattle.walk.specs.declared.cursor.Cursor.{Cursor}
-use Rattle.walk.specs.declared.Walk.{Walk}
-use Rattle.walk.specs.declared.Taken.the-variants.{Done}
+use Rattle.walk.specs.declared.{cursor.Cursor.Cursor, Walk.Walk, Taken.the-variants.Done}
 use Rattle.walk.proofs.Laws.{viewed, step-on}
 use Rattle.reader.specs.Reader.{readerAt, handedBy, handedOut}
 use Rattle.listing_text.specs.Listing.{listed, listingText}

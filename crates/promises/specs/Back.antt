@@ -1,20 +1,12 @@
 -- A line read and printed comes back, exactly where it is not odd: said through the contracts, so of what the programs do.
-use Prim.Native.Char.{code}
-use Prim.Native.Nat.{ℕ, _≤_, _<_}
-use mathlib.Core.Path.{_≡_}
-use mathlib.Core.Bool.{true, false}
-use mathlib.Core.List.{List, _++_}
-use lib.ListN.{length, drop}
-use Rattle.text.specs.Res.{Res, ok, no}
-use Rattle.text.specs.Line.{byte}
+use Rattle.text.specs.Prelude.{ℕ, _≤_, _<_, code, _≡_, true, false, List, _++_, length, drop, Res, ok, no, byte}
 use Rattle.text.specs.declared.refusal.Refusal.the-variants.{NoRoom}
 use Rattle.print.specs.Print.{printedRes, Prints}
 use Rattle.print.specs.declared.printed.Printed.{Printed}
 use Rattle.table.specs.Table.{readTable, tableRead}
 use Rattle.table.specs.declared.TableRead.{TableRead}
 use Rattle.records.specs.Record.{readLine, recordText, reprinted, readingRes}
-use Rattle.records.specs.declared.Record.{Record}
-use Rattle.records.specs.declared.Reading.the-variants.{Accepted}
+use Rattle.records.specs.declared.{Record.Record, Reading.the-variants.Accepted}
 use Rattle.promises.specs.Odd.{lineOdd}
 use Rattle.promises.specs.Spelt.{spelt}
 

@@ -1,33 +1,26 @@
 -- Demand 3, for this reader, its fresh walks and its lookups by name.
-use Prim.Native.Char.{code}
-use Prim.Native.Nat.{ℕ, _+_}
-use mathlib.Core.Path.{_≡_}
-use mathlib.Core.Bool.{Bool, true, not}
-use mathlib.Core.List.{List, [], _∷_, _++_}
-use lib.ListN.{length, take, drop}
-use Rattle.text.specs.Res.{ok, no, _∨?_}
+use Rattle.text.specs.Prelude.{ℕ, _+_, code, _≡_, Bool, true, not, List, [], _∷_, _++_, length, take, drop, ok, no}
+use Rattle.text.specs.Prelude.{_∨?_, begins}
 use Rattle.text.specs.declared.refusal.Refusal.the-variants.{NoDefinition}
 use Rattle.field.specs.declared.Mnemonic.{Mnemonic}
 use Rattle.b_record.specs.declared.BRecord.{BRecord}
 use Rattle.records.specs.Record.{readLine}
 use Rattle.records.specs.declared.Record.{Record}
-use Rattle.records.specs.declared.Record.the-variants as rec
 use Rattle.log.specs.Line.{lineText}
 use Rattle.log.specs.Log.{chunks, closed, readings}
 use Rattle.log.specs.Demand.{Moved, Each, All, some}
-use Rattle.text.specs.Line.{begins}
 use Rattle.held.specs.Held.{lookUp}
 use Rattle.walk.specs.Readings.{reader, letterI, Line-read}
 
 -- On an accepted B line every lookup by name answers in x what it answers in y.
 abbrev pub SameValues : Line-read → Line-read → Type 0
 SameValues x y =
-    (fix : BRecord) (name : Mnemonic) → x .answer ≡ ok (rec.B fix)
+    (fix : BRecord) (name : Mnemonic) → x .answer ≡ ok (Record.B fix)
     → lookUp 35 (fix .rest) (x .held) name (x .line) ≡ lookUp 35 (fix .rest) (y .held) name (y .line)
 
 -- On an accepted B line every lookup by name is refused.
 abbrev pub NoValues : Line-read → Type 0
-NoValues x = (fix : BRecord) (name : Mnemonic) → x .answer ≡ ok (rec.B fix) → lookUp 35 (fix .rest) (x .held) name (x .line) ≡ no NoDefinition
+NoValues x = (fix : BRecord) (name : Mnemonic) → x .answer ≡ ok (Record.B fix) → lookUp 35 (fix .rest) (x .held) name (x .line) ≡ no NoDefinition
 
 -- Where `stay` holds these lines keep their extension values; else they do from the next line on that begins with I.
 abbrev pub ValuesStay : Bool → List Line-read → List Line-read → Type 0

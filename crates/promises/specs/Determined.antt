@@ -2,11 +2,7 @@
 -- a definition; Shows, of a slice; Wrote, of a piece; Prints, of a printer; the answer and the bytes it leaves, as one
 -- value ≡ a definition; Took, of lines taken into lent bytes. In each way, any two permitted answers are equal, and so
 -- are the bytes that they leave. (Of the first there is nothing to prove.)
-use Prim.Native.Nat.{ℕ}
-use mathlib.Core.Path.{_≡_}
-use mathlib.Core.List.{List}
-use denote.Ref.{RefT, now}
-use Rattle.text.specs.Res.{Res}
+use Rattle.text.specs.Prelude.{ℕ, _≡_, List, RefT, now, Res}
 use Rattle.text.specs.Number.{u8Res, u16Res, i8Res, i16Res}
 use Rattle.part.specs.Part.{foundRes, Shows}
 use Rattle.part.specs.declared.Part.{Part}

@@ -1,9 +1,5 @@
 -- What the program `fields` shows as printed is what `Record::print` prints.
-use Rattle.text.specs.Line.{LF}
-use mathlib.Core.Path.{_≡_}
-use mathlib.Core.List.{List, _++_, [], _∷_}
-use Prim.Native.Nat.{ℕ}
-use Rattle.text.specs.Res.{Res, ok, no}
+use Rattle.text.specs.Prelude.{ℕ, _≡_, List, [], _∷_, _++_, Res, ok, no, LF}
 use Rattle.records.specs.Record.{readLine, recordTable, recordPiece, reprinted}
 use Rattle.records.specs.declared.Record.{Record}
 use Rattle.log.specs.Log.{readings}

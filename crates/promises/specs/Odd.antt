@@ -1,13 +1,8 @@
 -- The lines that print otherwise than they were written: an A line in letter form; a number written with `+`; a height
 -- `-0000`; a count `-0`. All of them are seen in the line's bytes.
-use Prim.Native.Char.{code}
-use Prim.Native.Nat.{ℕ, zero, suc, _+_, _-_, _/_}
-use mathlib.Core.Bool.{Bool, false}
-use mathlib.Core.List.{List}
-use lib.ListN.{length, drop}
-use Rattle.text.specs.Res.{pick, _=?_, _∨?_}
-use Rattle.text.specs.Line.{byte, cut}
-use Rattle.text.specs.Number.{plus, minusZero}
+use Rattle.text.specs.Prelude.{ℕ, zero, suc, _+_, _-_, _/_, code, Bool, false, List, length, drop, pick, _=?_, _∨?_}
+use Rattle.text.specs.Prelude.{byte, cut, plus}
+use Rattle.text.specs.Number.{minusZero}
 use Rattle.a_record.specs.ARecord.{letterForm}
 use Rattle.c_record.specs.CRecord.{turns}
 

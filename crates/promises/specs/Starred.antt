@@ -1,20 +1,19 @@
 -- The starred readings of document 01, "Readings at the edges", one after the other as one list.
-use mathlib.Core.Path.{_≡_}
-use Rattle.text.specs.Res.{ok, no, bind}
+use Rattle.text.specs.Prelude.{_≡_, ok, no, bind, readInt, signed}
 use Rattle.part.specs.Part.{textOf}
-use Rattle.text.specs.Number.{readInt, signed}
-use Rattle.text.specs.declared.refusal.Refusal.the-variants.{Syntax, UnreadableNumber, OutOfRange, BadExtension}
-use Rattle.part.specs.declared.MaybePart.the-variants as maybe
+use Rattle.text.specs.declared.{refusal.Refusal.the-variants.Syntax, refusal.Refusal.the-variants.UnreadableNumber}
+use Rattle.text.specs.declared.{refusal.Refusal.the-variants.OutOfRange, refusal.Refusal.the-variants.BadExtension}
+use Rattle.part.specs.declared.MaybePart.{MaybePart}
 use Rattle.datetime.specs.Time.{readTime, secondsOf}
 use Rattle.coord.specs.Coord.{readLatitude}
 use Rattle.coord.specs.declared.Compass.the-variants.{North}
 use Rattle.manufacturer.specs.declared.Manufacturer.the-variants.{UnknownSingle}
 use Rattle.extension.specs.Value.{findValue}
 use Rattle.c_record.specs.CRecord.{readDeclaration}
-use Rattle.c_record.specs.declared.MaybeDate.the-variants.{Missing, On}
+use Rattle.c_record.specs.declared.{MaybeDate.the-variants.Missing, MaybeDate.the-variants.On}
 use Rattle.h_record.specs.declared.DataSource.the-variants.{FVU}
 use Rattle.records.specs.Record.{readLine, reprinted}
-use Rattle.records.specs.declared.Record.the-variants as rec
+use Rattle.records.specs.declared.Record.{Record}
 use Rattle.promises.specs.Spelt.{spelt}
 
 pub record Starred : Type 0 where
@@ -22,10 +21,10 @@ pub record Starred : Type 0 where
   pub line-empty : readLine (spelt "") ≡ no Syntax
   pub line-HFFTY : readLine (spelt "HFFTY") ≡ no Syntax
   pub line-HFFTY-colon :
-      readLine (spelt "HFFTY:") ≡ ok (rec.H (record {
+      readLine (spelt "HFFTY:") ≡ ok (Record.H (record {
         «data_source» = FVU;
         mnemonic = record { start = 2; len = 3 };
-        «friendly_name» = maybe.At (record { start = 5; len = 0 });
+        «friendly_name» = MaybePart.At (record { start = 5; len = 0 });
         «data» = record { start = 6; len = 0 };
       }))
   -- `AC00069` prints `ACAM00069`. `AX12345` prints `A12345`, which reads as 1. `AX123456` prints `A123456`, which reads as
@@ -36,7 +35,7 @@ pub record Starred : Type 0 where
   pub line-AX123456 : reprinted (spelt "AX123456") ≡ ok (spelt "A123456")
   pub line-A123456 :
       readLine (spelt "A123456")
-      ≡ ok (rec.A (record { manufacturer = UnknownSingle 49; «unique_id» = record { start = 2; len = 5 }; «id_extension» = maybe.Missing }))
+      ≡ ok (Record.A (record { manufacturer = UnknownSingle 49; «unique_id» = record { start = 2; len = 5 }; «id_extension» = MaybePart.Missing }))
   -- Time 246060 is accepted, 90060 seconds; 250000 is 4.
   pub time-246060 : readTime (spelt "246060") ≡ ok (record { hours = 24; minutes = 60; seconds = 60 })
   pub seconds-246060 : bind (readTime (spelt "246060")) (λ t. ok (secondsOf t)) ≡ ok 90060

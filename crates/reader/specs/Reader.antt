@@ -1,8 +1,5 @@
 -- A reader of a lent log, and what it shows at its place.
-use Prim.Native.Char.{code}
-use Prim.Native.Nat.{ℕ, zero, suc}
-use mathlib.Core.List.{List, [], _∷_}
-use denote.Ref.{RefT, now}
+use Rattle.text.specs.Prelude.{ℕ, zero, suc, code, List, [], _∷_, RefT, now}
 use Rattle.part.specs.Part.{bytesOf, findPart, shown}
 use Rattle.part.specs.declared.Part.{Part}
 use Rattle.log.specs.Line.{cutAt}
@@ -11,9 +8,8 @@ use Rattle.held.specs.Held.{heldAfter}
 use Rattle.held.specs.declared.Held.{Held}
 use Rattle.walk.specs.Cursor.{nextOf}
 use Rattle.walk.specs.Readings.{Line-read}
-use Rattle.walk.specs.declared.cursor.Cursor.{Cursor}
-use Rattle.walk.specs.declared.cursor.Next.{Next}
-use Rattle.walk.specs.declared.cursor.Next.the-variants.{Line, Done}
+use Rattle.walk.specs.declared.{cursor.Cursor.Cursor, cursor.Next.Next, cursor.Next.the-variants.Line}
+use Rattle.walk.specs.declared.{cursor.Next.the-variants.Done}
 use Rattle.reader.specs.declared.LogReader.{LogReader}
 
 -- A reader of the lent log at a cursor of the walk.

@@ -1,14 +1,8 @@
 -- The names asked for: how many they are, and each of them.
-use Prim.Native.Nat.{ℕ, zero, suc, _+_, _*_, _/_, _≤_, _<_, min}
-use mathlib.Core.Path.{_≡_, refl, ap, _∙_}
-use mathlib.Core.Bool.{Bool, true, false}
-use mathlib.Core.List.{List, [], _∷_}
+use Rattle.text.specs.Prelude.{ℕ, zero, suc, _+_, _*_, _/_, _≤_, _<_, min, _≡_, Bool, true, false, List, [], _∷_}
+use Rattle.text.specs.Prelude.{length, drop, getD, pick}
+use Rattle.text.proofs.Prelude.{arith, refl, ap, _∙_, length-take, drop-cons, getD-take, first, second, yes≤, no≤}
 use native.Mathlib.Nat.{suc-add}
-use native.Mathlib.Omega.{arith}
-use lib.ListN.{length, drop, getD, length-take}
-use lib.Seq.{drop-cons, getD-take}
-use Rattle.text.specs.Res.{pick}
-use Rattle.text.proofs.Steps.{first, second, yes≤, no≤}
 use Rattle.table.specs.Table.{empty, defsOf}
 use Rattle.extension.specs.declared.Extension.{Extension}
 use Rattle.table.specs.declared.Table.{Table}

@@ -1,10 +1,7 @@
 -- Texts of elements in a row: one law for the loops that write them.
-use Prim.Native.Nat.{ℕ, zero, suc, _+_}
-use mathlib.Core.Path.{_≡_, ap}
-use mathlib.Core.List.{List, [], _∷_, _++_, append-nil}
+use Rattle.text.specs.Prelude.{ℕ, zero, suc, _+_, _≡_, List, [], _∷_, _++_, take, drop}
+use Rattle.text.proofs.Prelude.{arith, ap, append-nil}
 use native.Mathlib.Numerals.{add-one}
-use native.Mathlib.Omega.{arith}
-use lib.ListN.{take, drop}
 use Rattle.put.specs.Put.{Wrote}
 use Rattle.put.proofs.Writing.{then}
 use Rattle.log.specs.Fold.{texts}

@@ -1,26 +1,14 @@
 -- Fields in plain decimal, each behind the one space that parts it from the field before.
-use Prim.Native.Char.{code}
-use Prim.Native.Nat.{ℕ}
-use mathlib.Core.List.{List, [], _∷_, _++_}
-use Rattle.text.specs.Number.{padded}
-use Rattle.part.specs.declared.Part.{Part}
-use Rattle.part.specs.declared.MaybePart.{MaybePart}
-use Rattle.part.specs.declared.MaybePart.the-variants as maybe
+use Rattle.text.specs.Prelude.{ℕ, code, List, [], _∷_, _++_, padded}
+use Rattle.part.specs.declared.{Part.Part, MaybePart.MaybePart}
 use Rattle.field.specs.Field.{mnemonicText}
-use Rattle.datetime.specs.declared.Time.{Time}
-use Rattle.datetime.specs.declared.Date.{Date}
+use Rattle.datetime.specs.declared.{Time.Time, Date.Date}
 use Rattle.coord.specs.Coord.{compassLetter}
-use Rattle.coord.specs.declared.RawCoord.{RawCoord}
-use Rattle.coord.specs.declared.position.RawPosition.{RawPosition}
-use Rattle.manufacturer.specs.declared.MaybeLetter.{MaybeLetter}
-use Rattle.manufacturer.specs.declared.MaybeLetter.the-variants as letter
-use Rattle.manufacturer.specs.declared.MaybeTriple.{MaybeTriple}
-use Rattle.manufacturer.specs.declared.MaybeTriple.the-variants as triple
+use Rattle.coord.specs.declared.{RawCoord.RawCoord, position.RawPosition.RawPosition}
+use Rattle.manufacturer.specs.declared.{MaybeLetter.MaybeLetter, MaybeTriple.MaybeTriple}
 use Rattle.b_record.specs.BRecord.{pressureText, gpsText}
-use Rattle.b_record.specs.declared.PressureAlt.{PressureAlt}
-use Rattle.b_record.specs.declared.GpsAlt.{GpsAlt}
+use Rattle.b_record.specs.declared.{PressureAlt.PressureAlt, GpsAlt.GpsAlt}
 use Rattle.c_record.specs.declared.MaybeDate.{MaybeDate}
-use Rattle.c_record.specs.declared.MaybeDate.the-variants as date
 
 unfoldable pub numberShown : ℕ → List ℕ
 numberShown n = (code " " ∷ []) ++ padded 1 n
@@ -44,8 +32,8 @@ partShown p = (code " " ∷ []) ++ placeText p
 
 -- `-` for none.
 unfoldable pub maybeShown : MaybePart → List ℕ
-maybeShown maybe.Missing = byteShown (code "-")
-maybeShown (maybe.At p) = partShown p
+maybeShown MaybePart.Missing = byteShown (code "-")
+maybeShown (MaybePart.At p) = partShown p
 
 -- Numbers parted by a mark.
 unfoldable pub twoMarked : ℕ → ℕ → ℕ → List ℕ
@@ -63,8 +51,8 @@ unfoldable pub dateShown : Date → List ℕ
 dateShown d = threeShown (code "/") (d .day) (d .month) (d .year)
 
 unfoldable pub flightShown : MaybeDate → List ℕ
-flightShown date.Missing = byteShown (code "-")
-flightShown (date.On d) = dateShown d
+flightShown MaybeDate.Missing = byteShown (code "-")
+flightShown (MaybeDate.On d) = dateShown d
 
 -- Degrees, thousandths and letter.
 unfoldable pub coordShown : RawCoord → List ℕ
@@ -76,9 +64,9 @@ positionShown p = coordShown (p .lat .0) ++ coordShown (p .lon .0)
 
 -- A maker's codes as they are.
 unfoldable pub letterShown : MaybeLetter → List ℕ
-letterShown letter.Missing = byteShown (code "-")
-letterShown (letter.Letter b) = byteShown b
+letterShown MaybeLetter.Missing = byteShown (code "-")
+letterShown (MaybeLetter.Letter b) = byteShown b
 
 unfoldable pub tripleShown : MaybeTriple → List ℕ
-tripleShown triple.Missing = byteShown (code "-")
-tripleShown (triple.Triple t) = (code " " ∷ []) ++ mnemonicText t
+tripleShown MaybeTriple.Missing = byteShown (code "-")
+tripleShown (MaybeTriple.Triple t) = (code " " ∷ []) ++ mnemonicText t

@@ -1,10 +1,5 @@
 -- Values of extensions on a B line, looked up by name.
-use Prim.Native.Char.{code}
-use Prim.Native.Nat.{ℕ}
-use mathlib.Core.List.{List, [], _∷_, _++_}
-use lib.ListN.{length}
-use Rattle.text.specs.Res.{Res, ok, no, pick, numberOf, _≤?_}
-use Rattle.text.specs.Number.{padded}
+use Rattle.text.specs.Prelude.{ℕ, code, List, [], _∷_, _++_, length, Res, ok, no, pick, numberOf, _≤?_, padded}
 use Rattle.part.specs.declared.Part.{Part}
 use Rattle.field.specs.Field.{mnemonicText}
 use Rattle.field.specs.declared.Mnemonic.{Mnemonic}

@@ -1,11 +1,6 @@
 -- A count of two characters is at most 99.
-use Prim.Native.Nat.{ℕ, _^_, _≤_, _<_}
-use mathlib.Core.Path.{_≡_, sym}
-use mathlib.Core.List.{List}
-use native.Mathlib.Omega.{arith}
-use lib.ListN.{length, drop, length-drop}
-use Rattle.text.specs.Res.{ok}
-use Rattle.text.specs.Number.{readDigits, readNat}
+use Rattle.text.specs.Prelude.{ℕ, _^_, _≤_, _<_, _≡_, List, length, drop, ok, readNat, readDigits}
+use Rattle.text.proofs.Prelude.{arith, sym, length-drop}
 use Rattle.text.proofs.Finds.{Finds, finds-ok, finds-guard, finds-pick}
 use Rattle.text.proofs.Decimal.{value-below}
 

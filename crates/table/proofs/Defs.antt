@@ -1,27 +1,22 @@
 -- Definitions in turn: the loops that read them and put them.
-use Prim.Native.Nat.{ℕ, suc, _+_, _-_, _*_, _≤_, _<_, min}
-use mathlib.Core.Path.{_≡_, refl, sym, ap, _∙_}
-use mathlib.Core.Bool.{Bool, true, false}
-use mathlib.Core.List.{List, [], _∷_, _++_, append-assoc, append-nil, map}
-use native.Mathlib.Omega.{arith}
+use Rattle.text.specs.Prelude.{ℕ, suc, _+_, _-_, _*_, _≤_, _<_, min, _≡_, Bool, true, false, List, [], _∷_, _++_, map}
+use Rattle.text.specs.Prelude.{length, take, drop, getD, set, replicate, Res, ok, no, bind, cut, columns}
+use Rattle.text.proofs.Prelude.{arith, refl, sym, ap, _∙_, append-nil, append-assoc, length-append, take-all, drop-drop}
+use Rattle.text.proofs.Prelude.{off}
 use native.Mathlib.Nat.{add-sub-cancel-left}
 use native.Mathlib.Numerals.{add-one}
 use lib.Dec.{leb}
-use lib.ListN.{length, take, drop, getD, set, replicate, length-append, length-map}
-use lib.Seq.{drop-drop, set-at, take-suc, take-all}
+use lib.ListN.{length-map}
+use lib.Seq.{set-at, take-suc}
 use borrow.Author.Tests.{leb-true, leb-false}
-use Rattle.text.specs.Res.{Res, ok, no, bind}
 use Rattle.text.specs.declared.refusal.Refusal.{Refusal}
-use Rattle.text.proofs.Steps.{off}
 use Rattle.text.proofs.Lines.{cut-rest}
-use Rattle.text.specs.Line.{cut, columns}
 use Rattle.put.specs.Put.{Wrote}
 use Rattle.put.proofs.Writing.{then}
 use Rattle.extension.specs.Extension.{readExtension, extensionText}
 use Rattle.table.specs.Table.{empty, tableOf, readDefs, defsText, tableRead}
 use Rattle.extension.specs.declared.Extension.{Extension}
-use Rattle.table.specs.declared.Verdict.the-variants.{Accepted}
-use Rattle.table.specs.declared.TableRead.{TableRead}
+use Rattle.table.specs.declared.{Verdict.the-variants.Accepted, TableRead.TableRead}
 
 -- ---- reading
 

@@ -1,12 +1,7 @@
 -- The law of a turn, for this reader of lines and every step.
-use Prim.Native.Nat.{ℕ, _+_, _-_, _≤_, _<_}
-use mathlib.Core.Path.{_≡_, refl}
-use mathlib.Core.Bool.{Bool, true, false}
-use mathlib.Core.List.{List, _++_}
+use Rattle.text.specs.Prelude.{ℕ, _+_, _-_, _≤_, _<_, _≡_, Bool, true, false, List, _++_, length, take, pick}
+use Rattle.text.proofs.Prelude.{arith, refl}
 use mathlib.Core.Option.{Option, none, some}
-use native.Mathlib.Omega.{arith}
-use lib.ListN.{length, take}
-use Rattle.text.specs.Res.{pick}
 use Rattle.part.specs.Part.{partBytes, bytesOf}
 use Rattle.records.specs.Record.{readLine, readingRes}
 use Rattle.records.specs.declared.Reading.{Reading}

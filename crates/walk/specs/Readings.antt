@@ -1,21 +1,15 @@
 -- What the steps of a walk read, as readings of its lines, and this reader among readers of lines.
-use Prim.Native.Char.{code}
-use Prim.Native.Nat.{ℕ, zero, suc}
-use mathlib.Core.Path.{_≡_, refl}
-use mathlib.Core.List.{List, [], _∷_}
-use Rattle.text.specs.Res.{Res, pick}
+use Rattle.text.specs.Prelude.{ℕ, zero, suc, code, _≡_, List, [], _∷_, Res, pick, begins}
+use mathlib.Core.Path.{refl}
 use Rattle.part.specs.Part.{bytesOf}
 use Rattle.table.specs.Table.{readTable}
 use Rattle.records.specs.Record.{readLine, readingRes}
 use Rattle.records.specs.declared.Record.{Record}
 use Rattle.log.specs.Log.{Reader, LineRead, Letter}
-use Rattle.text.specs.Line.{begins}
 use Rattle.held.specs.Held.{noTable, setBy, heldAfter}
 use Rattle.held.specs.declared.Held.{Held}
 use Rattle.walk.specs.Walk.{stepOf}
-use Rattle.walk.specs.declared.Walk.{Walk}
-use Rattle.walk.specs.declared.Taken.{Taken}
-use Rattle.walk.specs.declared.Taken.the-variants.{Line, Done}
+use Rattle.walk.specs.declared.{Walk.Walk, Taken.Taken, Taken.the-variants.Line, Taken.the-variants.Done}
 
 -- This reader of lines: the answer to a line with its record, and the table that I lines leave.
 abbrev pub reader : Reader (Res Record) Held

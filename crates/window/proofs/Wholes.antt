@@ -1,14 +1,7 @@
 -- The whole lines of a piece.
-use Prim.Native.Nat.{ℕ, zero, suc, _+_, _-_, _≤_, _<_}
-use mathlib.Core.Path.{_≡_, refl, sym, ap, _∙_}
-use mathlib.Core.Bool.{true, false}
-use mathlib.Core.List.{List, [], _∷_}
-use native.Mathlib.Omega.{arith}
-use lib.ListN.{length, take, drop}
-use lib.Seq.{drop-cons, drop-length}
-use Rattle.text.specs.Res.{_=?_}
-use Rattle.text.specs.Line.{byte}
-use Rattle.text.proofs.Steps.{first, second, yes=, no=}
+use Rattle.text.specs.Prelude.{ℕ, zero, suc, _+_, _-_, _≤_, _<_, _≡_, true, false, List, [], _∷_, length, take, drop}
+use Rattle.text.specs.Prelude.{_=?_, byte}
+use Rattle.text.proofs.Prelude.{arith, refl, sym, ap, _∙_, drop-cons, drop-length, first, second, yes=, no=}
 use Rattle.log.specs.Log.{closed, closedFrom}
 use Rattle.log.proofs.Ends.{by-test}
 use Rattle.log.proofs.Chunks.{closed-none}

@@ -1,7 +1,5 @@
-use borrow.Author.Needs.{needs}
-use mathlib.Core.Path.{sym}
-use Rattle.text.proofs.Steps.{fails, holds, yes≤, no≤}
-use Rattle.text.specs.Line.{cut}
+use Rattle.text.specs.Prelude.{cut}
+use Rattle.text.proofs.Prelude.{needs, sym, yes≤, no≤, holds, fails}
 use Rattle.a_record.specs.ARecord.{longForm}
 use Rattle.a_record.proofs.is_long.Statement.{statement}
 use Rattle.a_record.proofs.is_long.Tie as tie

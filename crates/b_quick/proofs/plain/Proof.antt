@@ -1,12 +1,5 @@
-use borrow.Author.Needs.{needs}
-use Prim.Native.Nat.{ℕ}
-use mathlib.Core.Path.{_≡_, sym}
-use mathlib.Core.Bool.{true}
-use mathlib.Core.List.{List}
-use denote.Ref.{now}
-use Rattle.text.specs.Number.{allDigits}
-use Rattle.text.proofs.Steps.{fails, holds, so-true, so-false}
-use Rattle.text.specs.Line.{cut}
+use Rattle.text.specs.Prelude.{ℕ, _≡_, true, List, now, cut, allDigits}
+use Rattle.text.proofs.Prelude.{needs, sym, holds, fails, so-true, so-false}
 use Rattle.b_quick.specs.Quick.{plainDigits}
 use Rattle.b_quick.proofs.plain.Statement.{statement}
 use Rattle.b_quick.proofs.plain.Tie as tie

@@ -1,14 +1,5 @@
-use borrow.Author.Needs.{needs}
-use Prim.Native.Nat.{ℕ, _≤_}
-use mathlib.Core.Path.{_≡_, refl, _∙_}
-use mathlib.Core.Bool.{true}
-use mathlib.Core.List.{List}
-use native.Mathlib.Omega.{arith}
-use lib.ListN.{length}
-use denote.Ref.{now}
-use Rattle.text.specs.Res.{ok, pick}
-use Rattle.text.specs.Line.{byte, cut, columns}
-use Rattle.text.proofs.Steps.{came, on, first, second, so-true, so-false}
+use Rattle.text.specs.Prelude.{ℕ, _≤_, _≡_, true, List, length, now, ok, pick, byte, cut, columns}
+use Rattle.text.proofs.Prelude.{needs, arith, refl, _∙_, came, on, first, second, so-true, so-false}
 use Rattle.text.proofs.Reading.{Written}
 use Rattle.field.specs.Field.{isAscii}
 use Rattle.datetime.specs.Time.{readTime, timeRes}
@@ -16,11 +7,12 @@ use Rattle.coord.specs.Coord.{latitudeRes, longitudeRes}
 use Rattle.b_record.specs.BRecord.{validOf, validRes, readFix}
 use Rattle.b_quick.specs.Quick.{plainDigits, fixRead}
 use Rattle.b_quick.specs.declared.Quick.the-variants.{No}
-use Rattle.b_quick.proofs.Numbers.{Numbers, Number, plain-numbers, at-most-five, digits-written, number-within, two-digits-fit, latitudeOf, longitudeOf}
-use Rattle.b_quick.proofs.Numbers.{time-at, latitude-at, longitude-at, position-at, heights-at}
-use Rattle.b_quick.proofs.Refusing.{Refuses, refuses, fix-found, fix-refused}
-use Rattle.b_quick.proofs.Refusing.{no-time, no-latitude, no-longitude, no-letter, pressure-over, gps-over}
-use Rattle.b_quick.proofs.Refusing.{lat-minutes-over, lon-degrees-over, lon-minutes-over}
+use Rattle.b_quick.proofs.Numbers.{Numbers, Number, plain-numbers, at-most-five, digits-written, number-within}
+use Rattle.b_quick.proofs.Numbers.{two-digits-fit, latitudeOf, longitudeOf, time-at, latitude-at, longitude-at}
+use Rattle.b_quick.proofs.Numbers.{position-at, heights-at}
+use Rattle.b_quick.proofs.Refusing.{Refuses, refuses, fix-found, fix-refused, no-time, no-latitude, no-longitude}
+use Rattle.b_quick.proofs.Refusing.{no-letter, pressure-over, gps-over, lat-minutes-over, lon-degrees-over}
+use Rattle.b_quick.proofs.Refusing.{lon-minutes-over}
 use Rattle.b_quick.proofs.plain_fix.Statement.{statement}
 use Rattle.b_quick.proofs.plain_fix.Tie as tie
 

@@ -1,14 +1,6 @@
-use Prim.Native.Nat.{ℕ, _+_, _-_, _*_, _≤_}
-use mathlib.Core.Path.{_≡_, refl}
-use mathlib.Core.Bool.{true}
-use mathlib.Core.List.{List}
-use native.Mathlib.Omega.{arith}
+use Rattle.text.specs.Prelude.{ℕ, _+_, _-_, _*_, _≤_, _≡_, true, List, length, drop, getD, now, allDigits, valueFrom}
+use Rattle.text.proofs.Prelude.{needs, arith, refl, drop-cons, drop-length}
 use native.Mathlib.Numerals.{add-one}
-use borrow.Author.Needs.{needs}
-use lib.ListN.{length, drop, getD}
-use lib.Seq.{drop-cons, drop-length}
-use denote.Ref.{now}
-use Rattle.text.specs.Number.{allDigits, valueFrom}
 use Rattle.text.proofs.Decimal.{head-digit, value-ge, value-below}
 use Rattle.b_quick.proofs.value.Statement.{statement}
 use Rattle.b_quick.proofs.value.Tie as tie

@@ -1,4 +1,5 @@
-use mathlib.Core.Path.{_≡_, sym}
+use Rattle.text.specs.Prelude.{_≡_}
+use Rattle.text.proofs.Prelude.{sym}
 use lib.Dec.{T}
 use lib.IntN.{natAbs}
 use lib.Signed.{nonNeg}

@@ -1,7 +1,5 @@
-use borrow.Author.Needs.{needs}
-use Prim.Native.Nat.{_+_, _<_, _^_}
-use mathlib.Core.Path.{_≡_}
-use native.Mathlib.Omega.{arith}
+use Rattle.text.specs.Prelude.{_+_, _^_, _<_, _≡_}
+use Rattle.text.proofs.Prelude.{needs, arith}
 use Rattle.b_record.specs.declared.BRecord.{BRecord}
 use Rattle.bench_loops.specs.Timed.{above, ofFix}
 use Rattle.bench_loops.proofs.Heights.{above-is}

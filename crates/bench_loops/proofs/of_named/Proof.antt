@@ -1,5 +1,4 @@
-use borrow.Author.Needs.{needs}
-use mathlib.Core.Path.{ap, _∙_}
+use Rattle.text.proofs.Prelude.{needs, ap, _∙_}
 use Rattle.bench_loops.specs.Timed.{ofValue, ofNamed}
 use Rattle.bench_loops.proofs.of_named.Statement.{statement}
 use Rattle.bench_loops.proofs.of_named.Tie as tie

@@ -1,5 +1,5 @@
-use borrow.Author.Needs.{needs}
-use mathlib.Core.Path.{_≡_, sym, ap, _∙_}
+use Rattle.text.specs.Prelude.{_≡_}
+use Rattle.text.proofs.Prelude.{needs, sym, ap, _∙_}
 use Rattle.records.specs.Record.{readingRes}
 use Rattle.records.specs.declared.MaybeFix.{MaybeFix}
 use Rattle.bench_loops.specs.Timed.{ofAccepted, ofAnswer}

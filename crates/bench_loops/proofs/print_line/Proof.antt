@@ -1,8 +1,5 @@
-use borrow.Author.Needs.{needs}
-use mathlib.Core.Path.{_≡_, refl, ap}
-use denote.Ref.{now}
-use Rattle.text.specs.Res.{bind}
-use Rattle.text.proofs.Steps.{came}
+use Rattle.text.specs.Prelude.{_≡_, now, bind}
+use Rattle.text.proofs.Prelude.{needs, refl, ap, came}
 use Rattle.print.specs.Print.{answerTo, leftBy, printedRes}
 use Rattle.records.specs.Record.{recordText, readingRes, answerPrinted}
 use Rattle.bench_loops.specs.Timed.{written}

@@ -1,8 +1,5 @@
-use borrow.Author.Needs.{needs}
-use Prim.Native.Nat.{ℕ, _-_}
-use mathlib.Core.Path.{_≡_, refl}
-use native.Mathlib.Omega.{arith}
-use lib.ListN.{length}
+use Rattle.text.specs.Prelude.{ℕ, _-_, _≡_, length}
+use Rattle.text.proofs.Prelude.{needs, arith, refl}
 use Rattle.log.specs.Fold.{fresh}
 use Rattle.log.proofs.Reached.{Reached, at-start, product}
 use Rattle.walk.specs.Readings.{reader}

@@ -1,7 +1,5 @@
-use borrow.Author.Needs.{needs}
-use Prim.Native.Nat.{_-_}
-use mathlib.Core.Path.{_≡_, refl, sym}
-use lib.ListN.{length}
+use Rattle.text.specs.Prelude.{_-_, _≡_, length}
+use Rattle.text.proofs.Prelude.{needs, refl, sym}
 use Rattle.walk.proofs.Turns.{Made, at-start, at-end, line, near}
 use Rattle.bench_loops.specs.Timed.{plus, printStep, printedOut}
 use Rattle.bench_loops.proofs.timed_print.Statement.{statement}

@@ -1,6 +1,5 @@
-use borrow.Author.Needs.{needs}
-use Prim.Native.Nat.{_-_}
-use lib.ListN.{length}
+use Rattle.text.specs.Prelude.{_-_, length}
+use Rattle.text.proofs.Prelude.{needs}
 use Rattle.walk.proofs.Turns.{Made, at-start, at-end, line, near}
 use Rattle.bench_loops.specs.Timed.{plus, readStep, readSum}
 use Rattle.bench_loops.proofs.timed_read.Statement.{statement}

@@ -1,10 +1,5 @@
-use Prim.Native.Nat.{_≤_, _-_}
-use mathlib.Core.Path.{_≡_, refl}
-use borrow.Author.Needs.{needs}
-use lib.ListN.{length, drop}
-use Rattle.text.specs.Res.{_=?_}
-use Rattle.text.specs.Number.{zeros}
-use Rattle.text.proofs.Steps.{yes=, no=}
+use Rattle.text.specs.Prelude.{_-_, _≤_, _≡_, length, drop, _=?_, zeros}
+use Rattle.text.proofs.Prelude.{needs, refl, yes=, no=}
 use Rattle.field.proofs.Every.{Every, every-fails, every-next, every-done}
 use Rattle.c_record.proofs.all_zeros.Statement.{statement}
 use Rattle.c_record.proofs.all_zeros.Tie as tie

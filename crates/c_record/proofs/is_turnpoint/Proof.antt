@@ -1,9 +1,6 @@
-use Prim.Native.Nat.{ℕ}
-use mathlib.Core.Path.{refl}
-use borrow.Author.Needs.{needs}
+use Rattle.text.specs.Prelude.{ℕ, pick, _=?_, _∨?_}
+use Rattle.text.proofs.Prelude.{needs, refl, first, second, yes=, no=}
 use lib.ListN.{List·getD-eq-default}
-use Rattle.text.specs.Res.{pick, _=?_, _∨?_}
-use Rattle.text.proofs.Steps.{first, second, yes=, no=}
 use Rattle.c_record.specs.CRecord.{turns}
 use Rattle.c_record.proofs.is_turnpoint.Statement.{statement}
 use Rattle.c_record.proofs.is_turnpoint.Tie as tie

@@ -1,4 +1,4 @@
-use borrow.Author.Needs.{needs}
+use Rattle.text.proofs.Prelude.{needs}
 use Rattle.c_record.specs.CRecord.{flightText}
 use Rattle.c_record.proofs.put_flight.Statement.{statement}
 use Rattle.c_record.proofs.put_flight.Tie as tie

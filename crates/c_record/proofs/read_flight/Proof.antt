@@ -1,11 +1,5 @@
-use borrow.Author.Needs.{needs}
-use Prim.Native.Nat.{ℕ}
-use mathlib.Core.Path.{_≡_, refl, sym, _∙_}
-use mathlib.Core.Bool.{false}
-use mathlib.Core.List.{List}
-use denote.Ref.{now}
-use Rattle.text.specs.Number.{zeros}
-use Rattle.text.proofs.Steps.{came, on, off, first, second}
+use Rattle.text.specs.Prelude.{ℕ, _≡_, false, List, now, zeros}
+use Rattle.text.proofs.Prelude.{needs, refl, sym, _∙_, came, on, off, first, second}
 use Rattle.datetime.specs.Date.{dateRes}
 use Rattle.c_record.specs.CRecord.{readFlight}
 use Rattle.c_record.proofs.read_flight.Statement.{statement}

@@ -1,15 +1,9 @@
-use borrow.Author.Needs.{needs}
-use Prim.Native.Nat.{ℕ}
-use mathlib.Core.Path.{_≡_, refl, ap, _∙_}
-use mathlib.Core.List.{List}
-use denote.Ref.{now}
+use Rattle.text.specs.Prelude.{ℕ, _≡_, List, now, ok, no, cut, columns, readNat, readInt}
+use Rattle.text.proofs.Prelude.{needs, refl, ap, _∙_, came, on, off}
 use mir.Syntax.{w8}
 use mir.Val.{toZ, ofZ}
 use mir.Facts.{toZ-ofZ}
-use Rattle.text.specs.Res.{ok, no}
-use Rattle.text.specs.Number.{readNat, readInt, u16Res, i8Res}
-use Rattle.text.proofs.Steps.{came, on, off}
-use Rattle.text.specs.Line.{cut, columns}
+use Rattle.text.specs.Number.{u16Res, i8Res}
 use Rattle.c_record.specs.CRecord.{readTask}
 use Rattle.c_record.proofs.read_task.Statement.{statement}
 use Rattle.c_record.proofs.read_task.Tie as tie

@@ -1,11 +1,6 @@
-use Prim.Native.Nat.{_-_}
-use mathlib.Core.Path.{_≡_, refl, sym, _∙_}
+use Rattle.text.specs.Prelude.{_-_, _≡_, length, drop, _∧?_, isDigit, allDigits}
+use Rattle.text.proofs.Prelude.{needs, refl, sym, _∙_, holds, fails, so-true, so-false}
 use mathlib.Core.Logic.{⊎-elim}
-use borrow.Author.Needs.{needs}
-use lib.ListN.{length, drop}
-use Rattle.text.specs.Res.{_∧?_}
-use Rattle.text.specs.Number.{isDigit, allDigits}
-use Rattle.text.proofs.Steps.{so-true, so-false, fails, holds}
 use Rattle.field.proofs.Every.{Every, next-seen, all-seen}
 use Rattle.field.proofs.all_digits.Statement.{statement}
 use Rattle.field.proofs.all_digits.Tie as tie

@@ -1,8 +1,5 @@
-use Prim.Native.Nat.{_-_}
-use mathlib.Core.Path.{_≡_, refl}
-use borrow.Author.Needs.{needs}
-use lib.ListN.{length, drop}
-use Rattle.text.proofs.Steps.{yes≤, no≤}
+use Rattle.text.specs.Prelude.{_-_, _≡_, length, drop}
+use Rattle.text.proofs.Prelude.{needs, refl, yes≤, no≤}
 use Rattle.field.specs.Field.{isAscii}
 use Rattle.field.proofs.Every.{every-fails, every-next, every-done}
 use Rattle.field.proofs.Ascii.{every-ascii}

@@ -1,9 +1,6 @@
-use Prim.Native.Nat.{_-_, _≤_}
-use mathlib.Core.Path.{_≡_, refl, sym, _∙_}
-use borrow.Author.Needs.{needs}
+use Rattle.text.specs.Prelude.{_-_, _≤_, _≡_, length, drop}
+use Rattle.text.proofs.Prelude.{needs, refl, sym, _∙_, holds, fails}
 use borrow.Author.Tests.{not-true, not-false}
-use lib.ListN.{length, drop}
-use Rattle.text.proofs.Steps.{fails, holds}
 use Rattle.field.specs.Field.{isAscii}
 use Rattle.field.proofs.Ascii.{eight-bytes-on}
 use Rattle.field.proofs.is_ascii.Statement.{statement}

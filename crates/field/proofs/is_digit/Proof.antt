@@ -1,7 +1,5 @@
-use borrow.Author.Needs.{needs}
-use mathlib.Core.Path.{sym}
-use Rattle.text.specs.Number.{isDigit}
-use Rattle.text.proofs.Steps.{yes≤, no≤, fails, holds, tested}
+use Rattle.text.specs.Prelude.{isDigit}
+use Rattle.text.proofs.Prelude.{needs, sym, yes≤, no≤, holds, fails, tested}
 use Rattle.field.proofs.is_digit.Statement.{statement}
 use Rattle.field.proofs.is_digit.Tie as tie
 

@@ -1,5 +1,5 @@
-use mathlib.Core.List.{[], _∷_}
-use borrow.Author.Needs.{needs}
+use Rattle.text.specs.Prelude.{[], _∷_}
+use Rattle.text.proofs.Prelude.{needs}
 use Rattle.field.proofs.Ascii.{Word, one-byte, byte-below}
 use Rattle.field.proofs.low8.Statement.{statement}
 use Rattle.field.proofs.low8.Tie as tie

@@ -1,6 +1,5 @@
-use Prim.Native.Nat.{_-_}
-use native.Mathlib.Omega.{arith}
-use borrow.Author.Needs.{needs}
+use Rattle.text.specs.Prelude.{_-_}
+use Rattle.text.proofs.Prelude.{needs, arith}
 use Rattle.gate_numbers.proofs.all.Statement.{statement}
 use Rattle.gate_numbers.proofs.all.Tie as tie
 

@@ -1,7 +1,5 @@
-use Prim.Native.Nat.{_+_, _≤_, _-_}
-use mathlib.Core.Path.{_≡_, refl}
-use borrow.Author.Needs.{needs}
-use lib.ListN.{length, drop}
+use Rattle.text.specs.Prelude.{_+_, _-_, _≤_, _≡_, length, drop}
+use Rattle.text.proofs.Prelude.{needs, refl}
 use Rattle.h_record.specs.HRecord.{colonIn}
 use Rattle.h_record.proofs.Colons.{here, colon-next, colon-nowhere}
 use Rattle.h_record.proofs.colon.Statement.{statement}

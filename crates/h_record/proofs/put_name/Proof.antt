@@ -1,6 +1,5 @@
-use borrow.Author.Needs.{needs}
-use mathlib.Core.Path.{_≡_}
-use native.Mathlib.Omega.{arith}
+use Rattle.text.specs.Prelude.{_≡_}
+use Rattle.text.proofs.Prelude.{needs, arith}
 use Rattle.part.specs.Part.{findMaybe}
 use Rattle.part.specs.declared.MaybePart.the-variants.{At}
 use Rattle.put.proofs.Writing.{then, wrote-nothing}

@@ -1,9 +1,5 @@
-use borrow.Author.Needs.{needs}
-use Prim.Native.Nat.{_-_, _≤_}
-use mathlib.Core.Path.{_≡_, refl, sym, _∙_}
-use native.Mathlib.Omega.{arith}
-use lib.ListN.{length, drop}
-use Rattle.text.proofs.Steps.{first, second}
+use Rattle.text.specs.Prelude.{_-_, _≤_, _≡_, length, drop}
+use Rattle.text.proofs.Prelude.{needs, arith, refl, sym, _∙_, first, second}
 use Rattle.table.specs.Table.{defsOf}
 use Rattle.table.proofs.Defs.{long-under}
 use Rattle.held.specs.Held.{firstNamed}

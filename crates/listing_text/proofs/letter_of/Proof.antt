@@ -1,9 +1,6 @@
-use borrow.Author.Needs.{needs}
-use mathlib.Core.Path.{refl}
-use native.Mathlib.Omega.{arith}
+use Rattle.text.specs.Prelude.{now}
+use Rattle.text.proofs.Prelude.{needs, arith, refl, first, second, yes≤, no≤, holds, fails, and}
 use lib.ListN.{List·getD-eq-default}
-use denote.Ref.{now}
-use Rattle.text.proofs.Steps.{first, second, yes≤, no≤, and, holds, fails}
 use Rattle.listing_text.specs.Line.{firstLetter}
 use Rattle.listing_text.proofs.letter_of.Statement.{statement}
 use Rattle.listing_text.proofs.letter_of.Tie as tie

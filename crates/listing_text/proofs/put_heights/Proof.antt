@@ -1,5 +1,4 @@
-use borrow.Author.Needs.{needs}
-use native.Mathlib.Omega.{arith}
+use Rattle.text.proofs.Prelude.{needs, arith}
 use Rattle.put.proofs.Writing.{wrote-nothing}
 use Rattle.listing_text.specs.Line.{heightsOf}
 use Rattle.listing_text.proofs.put_heights.Statement.{statement}

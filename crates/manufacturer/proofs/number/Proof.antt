@@ -1,5 +1,4 @@
-use borrow.Author.Needs.{needs}
-use mathlib.Core.Path.{refl}
+use Rattle.text.proofs.Prelude.{needs, refl}
 use Rattle.manufacturer.specs.Maker.{tripleNumber}
 use Rattle.manufacturer.proofs.number.Statement.{statement}
 use Rattle.manufacturer.proofs.number.Tie as tie

@@ -1,4 +1,4 @@
-use borrow.Author.Needs.{needs}
+use Rattle.text.proofs.Prelude.{needs}
 use Rattle.files.proofs.Filling.{ended-inside}
 use Rattle.paper.proofs.list.Statement.{statement}
 use Rattle.paper.proofs.list.Tie as tie

@@ -1,7 +1,5 @@
-use borrow.Author.Needs.{needs}
-use Prim.Native.Nat.{ℕ, _-_}
-use mathlib.Core.Path.{_≡_, refl}
-use native.Mathlib.Omega.{arith}
+use Rattle.text.specs.Prelude.{ℕ, _-_, _≡_}
+use Rattle.text.proofs.Prelude.{needs, arith, refl}
 use Rattle.paper.specs.Answer.{answerText}
 use Rattle.paper.proofs.put_answer.Statement.{statement}
 use Rattle.paper.proofs.put_answer.Tie as tie

@@ -1,6 +1,5 @@
-use borrow.Author.Needs.{needs}
-use native.Mathlib.Omega.{arith}
-use denote.Ref.{now}
+use Rattle.text.specs.Prelude.{now}
+use Rattle.text.proofs.Prelude.{needs, arith}
 use Rattle.listing_text.proofs.Limit.{paper-has-room}
 use Rattle.paper.proofs.Fitting.{all-written, not-refused}
 use Rattle.paper.proofs.put_paper.Statement.{statement}

@@ -1,11 +1,6 @@
-use borrow.Author.Needs.{needs}
-use Prim.Native.Nat.{ℕ, _+_, _-_, _≤_}
-use mathlib.Core.Path.{_≡_, refl, sym, _∙_}
-use native.Mathlib.Omega.{arith}
+use Rattle.text.specs.Prelude.{ℕ, _+_, _-_, _≤_, _≡_, _≤?_, largest}
+use Rattle.text.proofs.Prelude.{needs, arith, refl, sym, _∙_, yes≤, no≤, is≤, isnt≤, holds, fails, tested}
 use lib.Dec.{leb}
-use Rattle.text.specs.Res.{_≤?_}
-use Rattle.text.specs.Word.{largest}
-use Rattle.text.proofs.Steps.{yes≤, no≤, is≤, isnt≤, tested, fails, holds}
 use Rattle.log.proofs.Ends.{by-test}
 use Rattle.products.specs.Feed.{isReady}
 use Rattle.products.proofs.is_ready.Statement.{statement}

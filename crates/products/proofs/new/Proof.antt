@@ -1,4 +1,4 @@
-use borrow.Author.Needs.{needs}
+use Rattle.text.proofs.Prelude.{needs}
 use Rattle.products.specs.Feed.{fresh}
 use Rattle.products.proofs.new.Statement.{statement}
 use Rattle.products.proofs.new.Tie as tie

@@ -1,5 +1,4 @@
-use borrow.Author.Needs.{needs}
-use native.Mathlib.Omega.{arith}
+use Rattle.text.proofs.Prelude.{needs, arith}
 use Rattle.put.proofs.Writing.{wrote-nothing}
 use Rattle.products.specs.Product.{closing}
 use Rattle.products.proofs.put_closing.Statement.{statement}

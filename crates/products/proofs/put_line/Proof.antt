@@ -1,4 +1,4 @@
-use borrow.Author.Needs.{needs}
+use Rattle.text.proofs.Prelude.{needs}
 use Rattle.products.specs.Product.{productLine}
 use Rattle.products.proofs.put_line.Statement.{statement}
 use Rattle.products.proofs.put_line.Tie as tie

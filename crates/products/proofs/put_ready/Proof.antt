@@ -1,9 +1,5 @@
-use borrow.Author.Needs.{needs}
-use Prim.Native.Nat.{_+_, _-_, _≤_, _<_}
-use mathlib.Core.Path.{_∙_}
-use native.Mathlib.Omega.{arith}
-use lib.ListN.{length}
-use Rattle.text.specs.Word.{largest}
+use Rattle.text.specs.Prelude.{_+_, _-_, _≤_, _<_, length, largest}
+use Rattle.text.proofs.Prelude.{needs, arith, _∙_}
 use Rattle.put.proofs.Writing.{wrote-length}
 use Rattle.walk.specs.declared.Walk.{Walk}
 use Rattle.walk.proofs.Turns.{less-left}

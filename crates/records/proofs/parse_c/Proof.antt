@@ -1,12 +1,5 @@
-use borrow.Author.Needs.{needs}
-use Prim.Native.Nat.{ℕ, _≤_}
-use mathlib.Core.Path.{_≡_, refl, sym, _∙_}
-use mathlib.Core.Bool.{true, false}
-use mathlib.Core.List.{List}
-use lib.ListN.{length}
-use denote.Ref.{now}
-use Rattle.text.specs.Res.{ok, no}
-use Rattle.text.proofs.Steps.{came, on, off, pass, stop, first, second, yes≤, no≤}
+use Rattle.text.specs.Prelude.{ℕ, _≤_, _≡_, true, false, List, length, now, ok, no}
+use Rattle.text.proofs.Prelude.{needs, refl, sym, _∙_, came, on, off, pass, stop, first, second, yes≤, no≤}
 use Rattle.c_record.specs.CRecord.{turns, readDeclaration, readTurnpoint, declarationRes, turnpointRes}
 use Rattle.records.specs.Record.{readC}
 use Rattle.records.proofs.parse_c.Statement.{statement}

@@ -1,4 +1,4 @@
-use borrow.Author.Needs.{needs}
+use Rattle.text.proofs.Prelude.{needs}
 use Rattle.records.proofs.Tables.{verdict-accepted, verdict-refused}
 use Rattle.records.proofs.parse_table.Statement.{statement}
 use Rattle.records.proofs.parse_table.Tie as tie

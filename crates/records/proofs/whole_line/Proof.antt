@@ -1,4 +1,4 @@
-use mathlib.Core.Path.{refl}
+use Rattle.text.proofs.Prelude.{refl}
 use Rattle.records.specs.Record.{whole}
 use Rattle.records.proofs.whole_line.Statement.{statement}
 use Rattle.records.proofs.whole_line.Tie as tie

@@ -1,8 +1,5 @@
-use borrow.Author.Needs.{needs}
-use mathlib.Core.Path.{refl, sym, _∙_}
-use native.Mathlib.Omega.{arith}
-use denote.Ref.{now}
-use Rattle.text.proofs.Steps.{never}
+use Rattle.text.specs.Prelude.{now}
+use Rattle.text.proofs.Prelude.{needs, arith, refl, sym, _∙_, never}
 use Rattle.window.specs.Piece.{pieceEnd}
 use Rattle.window.proofs.Wholes.{whole-le}
 use Rattle.stream.proofs.Streaming.{goes-nowhere, goes-last, drained}

@@ -1,9 +1,5 @@
-use borrow.Author.Needs.{needs}
-use Prim.Native.Nat.{_-_}
-use mathlib.Core.Path.{_≡_, refl, _∙_}
-use mathlib.Core.Bool.{true}
-use lib.ListN.{length}
-use Rattle.text.specs.Word.{largest}
+use Rattle.text.specs.Prelude.{_-_, _≡_, true, length, largest}
+use Rattle.text.proofs.Prelude.{needs, refl, _∙_}
 use Rattle.products.specs.Feed.{fresh}
 use Rattle.files.proofs.Filling.{ended-inside}
 use Rattle.stream.specs.Stream.{Goes}

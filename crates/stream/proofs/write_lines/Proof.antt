@@ -1,10 +1,5 @@
-use borrow.Author.Needs.{needs}
-use Prim.Native.Nat.{_+_, _-_, _≤_}
-use mathlib.Core.Path.{_≡_, refl, sym, _∙_}
-use native.Mathlib.Omega.{arith}
-use denote.Ref.{now}
-use lib.ListN.{length}
-use Rattle.text.specs.Word.{largest}
+use Rattle.text.specs.Prelude.{_+_, _-_, _≤_, _≡_, length, now, largest}
+use Rattle.text.proofs.Prelude.{needs, arith, refl, sym, _∙_}
 use Rattle.log.proofs.Reached.{at-start}
 use Rattle.files.specs.Outcome.{hasFailed}
 use Rattle.stream.proofs.Streaming.{Streaming, went-on, stopped, put-more}

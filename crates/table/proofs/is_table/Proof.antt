@@ -1,8 +1,5 @@
-use Prim.Native.Char.{code}
-use mathlib.Core.Path.{refl}
-use borrow.Author.Needs.{needs}
-use Rattle.text.specs.Res.{_=?_, _∨?_}
-use Rattle.text.proofs.Steps.{first, second, yes=, no=}
+use Rattle.text.specs.Prelude.{code, _=?_, _∨?_}
+use Rattle.text.proofs.Prelude.{needs, refl, first, second, yes=, no=}
 use Rattle.table.specs.Table.{isTable}
 use Rattle.table.proofs.is_table.Statement.{statement}
 use Rattle.table.proofs.is_table.Tie as tie

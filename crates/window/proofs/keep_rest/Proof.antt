@@ -1,7 +1,5 @@
-use borrow.Author.Needs.{needs}
-use Prim.Native.Nat.{_-_}
-use mathlib.Core.Path.{refl}
-use native.Mathlib.Omega.{arith}
+use Rattle.text.specs.Prelude.{_-_}
+use Rattle.text.proofs.Prelude.{needs, arith, refl}
 use Rattle.window.proofs.Moves.{Moving, past-end, at-start, next-moved, all-moved}
 use Rattle.window.proofs.keep_rest.Statement.{statement}
 use Rattle.window.proofs.keep_rest.Tie as tie

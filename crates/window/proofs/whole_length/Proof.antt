@@ -1,4 +1,4 @@
-use borrow.Author.Needs.{needs}
+use Rattle.text.proofs.Prelude.{needs}
 use Rattle.window.proofs.Wholes.{NoneFrom, none-yet, none-at-all, last-here, none-here}
 use Rattle.window.proofs.whole_length.Statement.{statement}
 use Rattle.window.proofs.whole_length.Tie as tie

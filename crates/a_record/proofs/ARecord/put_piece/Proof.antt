@@ -1,4 +1,4 @@
-use borrow.Author.Needs.{needs}
+use Rattle.text.proofs.Prelude.{needs}
 use Rattle.put.proofs.Writing.{then}
 use Rattle.a_record.specs.ARecord.{aBody}
 use Rattle.a_record.proofs.ARecord.put_piece.Statement.{statement}

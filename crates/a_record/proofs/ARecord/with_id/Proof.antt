@@ -1,5 +1,4 @@
-use borrow.Author.Needs.{needs}
-use mathlib.Core.Path.{_∙_}
+use Rattle.text.proofs.Prelude.{needs, _∙_}
 use Rattle.a_record.specs.ARecord.{aOf}
 use Rattle.a_record.proofs.ARecord.with_id.Statement.{statement}
 use Rattle.a_record.proofs.ARecord.with_id.Tie as tie

@@ -1,12 +1,5 @@
-use borrow.Author.Needs.{needs}
-use Prim.Native.Nat.{ℕ}
-use mathlib.Core.Path.{_≡_, _∙_}
-use mathlib.Core.Bool.{true, false}
-use mathlib.Core.List.{List}
-use denote.Ref.{now}
-use Rattle.text.specs.Res.{Res, ok, no}
-use Rattle.text.specs.Line.{byte, cut, columns}
-use Rattle.text.proofs.Steps.{came, on, off, pass, stop, yes≤, no≤, so-true, so-false}
+use Rattle.text.specs.Prelude.{ℕ, _≡_, true, false, List, now, Res, ok, no, byte, cut, columns}
+use Rattle.text.proofs.Prelude.{needs, _∙_, came, on, off, pass, stop, yes≤, no≤, so-true, so-false}
 use Rattle.field.specs.Field.{isAscii, ascii, asciiIn}
 use Rattle.field.proofs.Fields.{columns-of-ascii}
 use Rattle.datetime.specs.Time.{readTime, timeIn, timeRes}

@@ -1,11 +1,6 @@
-use borrow.Author.Needs.{needs}
-use Prim.Native.Nat.{ℕ}
-use mathlib.Core.Path.{_≡_, refl}
-use mathlib.Core.List.{List}
-use denote.Ref.{now}
-use Rattle.text.specs.Res.{ok}
+use Rattle.text.specs.Prelude.{ℕ, _≡_, List, now, ok}
+use Rattle.text.proofs.Prelude.{needs, refl, came, on, off}
 use Rattle.part.specs.Part.{partBytes, partText, textOf, foundRes}
-use Rattle.text.proofs.Steps.{came, on, off}
 use Rattle.part.proofs.Parts.{text-found}
 use Rattle.print.proofs.Printing.{refused, no-room, written}
 use Rattle.b_record.specs.BRecord.{bBody, bText}

@@ -1,4 +1,4 @@
-use borrow.Author.Needs.{needs}
+use Rattle.text.proofs.Prelude.{needs}
 use Rattle.put.proofs.Writing.{then}
 use Rattle.b_record.specs.BRecord.{bBody}
 use Rattle.b_record.proofs.BRecord.put_piece.Statement.{statement}

@@ -1,5 +1,4 @@
-use borrow.Author.Needs.{needs}
-use mathlib.Core.Path.{sym, ap}
+use Rattle.text.proofs.Prelude.{needs, sym, ap}
 use Rattle.b_record.specs.BRecord.{validLetter}
 use Rattle.b_record.proofs.FixValid.letter.Statement.{statement}
 use Rattle.b_record.proofs.FixValid.letter.Tie as tie

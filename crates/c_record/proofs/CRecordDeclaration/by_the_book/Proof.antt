@@ -1,7 +1,5 @@
-use borrow.Author.Needs.{needs}
-use mathlib.Core.Path.{_≡_, sym, _∙_}
-use mathlib.Core.Bool.{true}
-use Rattle.text.proofs.Steps.{fails, holds}
+use Rattle.text.specs.Prelude.{_≡_, true}
+use Rattle.text.proofs.Prelude.{needs, sym, _∙_, holds, fails}
 use Rattle.datetime.specs.Date.{dateBook}
 use Rattle.datetime.specs.Time.{timeBook}
 use Rattle.c_record.specs.CRecord.{declarationBook}

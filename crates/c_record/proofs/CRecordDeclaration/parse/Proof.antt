@@ -1,15 +1,7 @@
-use borrow.Author.Needs.{needs}
-use Prim.Native.Nat.{ℕ}
-use Prim.Native.Char.{code}
-use mathlib.Core.Path.{_≡_}
-use mathlib.Core.List.{List}
-use denote.Ref.{now}
+use Rattle.text.specs.Prelude.{ℕ, code, _≡_, List, length, now, Res, ok, no, guard, _≤?_, _=?_, byte, cut, columns}
+use Rattle.text.proofs.Prelude.{needs, came, on, off, pass, stop, yes≤, no≤, yes=, no=, so-true, so-false}
 use mir.Syntax.{w8}
 use mir.Val.{toZ, ofZ}
-use lib.ListN.{length}
-use Rattle.text.specs.Res.{Res, ok, no, guard, _≤?_, _=?_}
-use Rattle.text.proofs.Steps.{came, on, off, pass, stop, yes≤, no≤, yes=, no=, so-true, so-false}
-use Rattle.text.specs.Line.{byte, cut, columns}
 use Rattle.field.specs.Field.{asciiIn}
 use Rattle.datetime.specs.Date.{readDate, dateRes}
 use Rattle.datetime.specs.Time.{readTime, timeRes}

@@ -1,5 +1,5 @@
-use borrow.Author.Needs.{needs}
-use mathlib.Core.Path.{_≡_}
+use Rattle.text.specs.Prelude.{_≡_}
+use Rattle.text.proofs.Prelude.{needs}
 use mir.Syntax.{w8}
 use mir.Val.{toZ, ofZ}
 use Rattle.put.proofs.Writing.{then}

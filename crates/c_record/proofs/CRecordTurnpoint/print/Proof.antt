@@ -1,12 +1,7 @@
-use borrow.Author.Needs.{needs}
-use Prim.Native.Nat.{ℕ}
-use mathlib.Core.Path.{_≡_, refl}
-use mathlib.Core.List.{List}
-use denote.Ref.{now}
-use Rattle.text.specs.Res.{ok}
+use Rattle.text.specs.Prelude.{ℕ, _≡_, List, now, ok}
+use Rattle.text.proofs.Prelude.{needs, refl, came, on, off}
 use Rattle.part.specs.Part.{findMaybe, maybeText, textOf, foundRes}
 use Rattle.part.specs.declared.MaybePart.{MaybePart}
-use Rattle.text.proofs.Steps.{came, on, off}
 use Rattle.part.proofs.Parts.{text-found}
 use Rattle.print.proofs.Printing.{refused, no-room, written}
 use Rattle.c_record.specs.CRecord.{turnpointText}

@@ -1,5 +1,4 @@
-use borrow.Author.Needs.{needs}
-use mathlib.Core.Path.{sym, ap}
+use Rattle.text.proofs.Prelude.{needs, sym, ap}
 use Rattle.coord.specs.Coord.{compassLetter}
 use Rattle.coord.proofs.Compass.letter.Statement.{statement}
 use Rattle.coord.proofs.Compass.letter.Tie as tie

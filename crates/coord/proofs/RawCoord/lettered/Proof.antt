@@ -1,5 +1,4 @@
-use borrow.Author.Needs.{needs}
-use Rattle.text.proofs.Steps.{came, on, off}
+use Rattle.text.proofs.Prelude.{needs, came, on, off}
 use Rattle.coord.specs.Coord.{compassRes, lettered}
 use Rattle.coord.proofs.RawCoord.lettered.Statement.{statement}
 use Rattle.coord.proofs.RawCoord.lettered.Tie as tie

@@ -1,6 +1,4 @@
-use borrow.Author.Needs.{needs}
-use mathlib.Core.Path.{refl, sym, _∙_}
-use Rattle.text.proofs.Steps.{pass, stop, yes≤, no≤, fails, holds}
+use Rattle.text.proofs.Prelude.{needs, refl, sym, _∙_, pass, stop, yes≤, no≤, holds, fails}
 use Rattle.coord.specs.Coord.{newCoord}
 use Rattle.coord.proofs.RawCoord.new.Statement.{statement}
 use Rattle.coord.proofs.RawCoord.new.Tie as tie

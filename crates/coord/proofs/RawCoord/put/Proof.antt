@@ -1,4 +1,4 @@
-use borrow.Author.Needs.{needs}
+use Rattle.text.proofs.Prelude.{needs}
 use Rattle.put.proofs.Writing.{then}
 use Rattle.coord.specs.Coord.{coordText}
 use Rattle.coord.proofs.RawCoord.put.Statement.{statement}

@@ -1,6 +1,4 @@
-use borrow.Author.Needs.{needs}
-use mathlib.Core.Path.{_∙_}
-use Rattle.text.proofs.Steps.{so-true, so-false}
+use Rattle.text.proofs.Prelude.{needs, _∙_, so-true, so-false}
 use Rattle.field.proofs.Fields.{wrong-length, not-ascii, field-of-ascii}
 use Rattle.datetime.specs.Time.{readTime, timeIn}
 use Rattle.datetime.proofs.Time.parse.Statement.{statement}

@@ -1,4 +1,4 @@
-use borrow.Author.Needs.{needs}
+use Rattle.text.proofs.Prelude.{needs}
 use Rattle.print.proofs.Printing.{no-room, written}
 use Rattle.datetime.proofs.Time.print.Statement.{statement}
 use Rattle.datetime.proofs.Time.print.Tie as tie

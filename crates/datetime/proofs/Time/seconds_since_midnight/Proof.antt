@@ -1,4 +1,4 @@
-use borrow.Author.Needs.{needs}
+use Rattle.text.proofs.Prelude.{needs}
 use Rattle.datetime.specs.Time.{secondsOf}
 use Rattle.datetime.proofs.Time.seconds_since_midnight.Statement.{statement}
 use Rattle.datetime.proofs.Time.seconds_since_midnight.Tie as tie

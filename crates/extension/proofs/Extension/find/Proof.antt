@@ -1,13 +1,7 @@
-use borrow.Author.Needs.{needs}
-use Prim.Native.Nat.{ℕ, _+_, _-_, _≤_}
-use mathlib.Core.Path.{_≡_, ap}
-use mathlib.Core.List.{List}
-use native.Mathlib.Omega.{arith}
-use denote.Ref.{now}
-use Rattle.text.specs.Res.{ok, no}
+use Rattle.text.specs.Prelude.{ℕ, _+_, _-_, _≤_, _≡_, List, now, ok, no}
+use Rattle.text.proofs.Prelude.{needs, arith, ap, came, on, off, pass, stop, yes≤, no≤}
 use Rattle.part.specs.Part.{findPart, foundRes}
 use Rattle.part.specs.declared.Part.{Part}
-use Rattle.text.proofs.Steps.{came, on, off, pass, stop, yes≤, no≤}
 use Rattle.part.proofs.Parts.{inside}
 use Rattle.extension.specs.Value.{findValue}
 use Rattle.extension.proofs.Extension.find.Statement.{statement}

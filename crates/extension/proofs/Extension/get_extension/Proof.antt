@@ -1,7 +1,5 @@
-use borrow.Author.Needs.{needs}
-use mathlib.Core.Path.{refl, sym}
+use Rattle.text.proofs.Prelude.{needs, refl, sym, came}
 use Rattle.part.specs.Part.{foundRes, shown, bytesOf}
-use Rattle.text.proofs.Steps.{came}
 use Rattle.extension.proofs.Values.{value-shown}
 use Rattle.extension.proofs.Extension.get_extension.Statement.{statement}
 use Rattle.extension.proofs.Extension.get_extension.Tie as tie

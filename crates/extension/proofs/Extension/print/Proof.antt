@@ -1,4 +1,4 @@
-use borrow.Author.Needs.{needs}
+use Rattle.text.proofs.Prelude.{needs}
 use Rattle.print.proofs.Printing.{no-room, written}
 use Rattle.extension.proofs.Extension.print.Statement.{statement}
 use Rattle.extension.proofs.Extension.print.Tie as tie

@@ -1,4 +1,4 @@
-use borrow.Author.Needs.{needs}
+use Rattle.text.proofs.Prelude.{needs}
 use Rattle.put.proofs.Writing.{then}
 use Rattle.extension.specs.Extension.{extensionText}
 use Rattle.extension.proofs.Extension.put.Statement.{statement}

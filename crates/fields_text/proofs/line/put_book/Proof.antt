@@ -1,10 +1,5 @@
-use borrow.Author.Needs.{needs}
-use mathlib.Core.Path.{_≡_, refl, sym, _∙_}
-use mathlib.Core.Bool.{true}
-use mathlib.Core.List.{[]}
-use native.Mathlib.Omega.{arith}
-use Rattle.text.specs.Res.{_=?_}
-use Rattle.text.proofs.Steps.{first, second, yes=, no=}
+use Rattle.text.specs.Prelude.{_≡_, true, [], _=?_}
+use Rattle.text.proofs.Prelude.{needs, arith, refl, sym, _∙_, first, second, yes=, no=}
 use Rattle.put.proofs.Writing.{wrote-nothing}
 use Rattle.records.specs.Record.{acceptedAs}
 use Rattle.record_text.specs.Piece.{byteShown}

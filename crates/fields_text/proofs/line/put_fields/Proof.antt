@@ -1,5 +1,4 @@
-use borrow.Author.Needs.{needs}
-use native.Mathlib.Omega.{arith}
+use Rattle.text.proofs.Prelude.{needs, arith}
 use Rattle.put.proofs.Writing.{wrote-nothing}
 use Rattle.fields_text.specs.Line.{fieldsShown}
 use Rattle.fields_text.proofs.line.put_fields.Statement.{statement}

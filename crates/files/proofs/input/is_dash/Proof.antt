@@ -1,7 +1,5 @@
-use borrow.Author.Needs.{needs}
-use mathlib.Core.Path.{refl, sym}
-use Rattle.text.specs.Res.{_=?_}
-use Rattle.text.proofs.Steps.{yes=, no=, holds, fails}
+use Rattle.text.specs.Prelude.{_=?_}
+use Rattle.text.proofs.Prelude.{needs, refl, sym, yes=, no=, holds, fails}
 use Rattle.files.specs.Input.{isDash}
 use Rattle.files.proofs.input.is_dash.Statement.{statement}
 use Rattle.files.proofs.input.is_dash.Tie as tie

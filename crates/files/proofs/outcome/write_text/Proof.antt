@@ -1,7 +1,5 @@
-use borrow.Author.Needs.{needs}
-use mathlib.Core.Path.{refl}
-use mathlib.Core.Bool.{true, false}
-use Rattle.text.specs.Res.{pick}
+use Rattle.text.specs.Prelude.{true, false, pick}
+use Rattle.text.proofs.Prelude.{needs, refl}
 use Rattle.files.proofs.outcome.write_text.Statement.{statement}
 use Rattle.files.proofs.outcome.write_text.Tie as tie
 

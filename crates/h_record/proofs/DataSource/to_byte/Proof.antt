@@ -1,5 +1,4 @@
-use borrow.Author.Needs.{needs}
-use mathlib.Core.Path.{sym, ap}
+use Rattle.text.proofs.Prelude.{needs, sym, ap}
 use Rattle.h_record.specs.HRecord.{sourceByte}
 use Rattle.h_record.proofs.DataSource.to_byte.Statement.{statement}
 use Rattle.h_record.proofs.DataSource.to_byte.Tie as tie

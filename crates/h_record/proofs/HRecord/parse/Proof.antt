@@ -1,12 +1,5 @@
-use borrow.Author.Needs.{needs}
-use Prim.Native.Nat.{ℕ}
-use mathlib.Core.Path.{_≡_}
-use mathlib.Core.List.{List}
-use native.Mathlib.Omega.{arith}
-use denote.Ref.{now}
-use Rattle.text.specs.Res.{ok}
-use Rattle.text.proofs.Steps.{pass, stop, first, second, yes≤, no≤, yes=, no=, so-true, so-false}
-use Rattle.text.specs.Line.{cut}
+use Rattle.text.specs.Prelude.{ℕ, _≡_, List, now, ok, cut}
+use Rattle.text.proofs.Prelude.{needs, arith, pass, stop, first, second, yes≤, no≤, yes=, no=, so-true, so-false}
 use Rattle.field.specs.Field.{asciiIn}
 use Rattle.h_record.specs.HRecord.{named, readH}
 use Rattle.h_record.specs.declared.HRecord.{HRecord}

@@ -1,6 +1,4 @@
-use borrow.Author.Needs.{needs}
-use mathlib.Core.Path.{refl, sym, _∙_}
-use Rattle.text.proofs.Steps.{first, second}
+use Rattle.text.proofs.Prelude.{needs, refl, sym, _∙_, first, second}
 use Rattle.held.specs.Held.{heldAfter}
 use Rattle.held.proofs.Held.after.Statement.{statement}
 use Rattle.held.proofs.Held.after.Tie as tie

@@ -1,5 +1,4 @@
-use borrow.Author.Needs.{needs}
-use Rattle.text.proofs.Steps.{came, on, off}
+use Rattle.text.proofs.Prelude.{needs, came, on, off}
 use Rattle.extension.specs.Extension.{extensionRes}
 use Rattle.held.specs.Held.{lookUp}
 use Rattle.held.proofs.Held.find.Statement.{statement}

@@ -1,8 +1,6 @@
-use borrow.Author.Needs.{needs}
-use mathlib.Core.Path.{refl, sym}
-use Rattle.text.specs.Res.{bind}
+use Rattle.text.specs.Prelude.{bind}
+use Rattle.text.proofs.Prelude.{needs, refl, sym, came}
 use Rattle.part.specs.Part.{shown, bytesOf}
-use Rattle.text.proofs.Steps.{came}
 use Rattle.extension.specs.Extension.{extensionRes}
 use Rattle.held.specs.Held.{lookUp}
 use Rattle.held.proofs.Held.get.Statement.{statement}

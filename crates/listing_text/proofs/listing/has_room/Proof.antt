@@ -1,11 +1,7 @@
-use borrow.Author.Needs.{needs}
-use Prim.Native.Nat.{ℕ, _+_, _-_, _*_, _/_, _≤_}
-use mathlib.Core.Path.{_≡_, sym, _∙_}
-use native.Mathlib.Omega.{arith}
+use Rattle.text.specs.Prelude.{ℕ, _+_, _-_, _*_, _/_, _≤_, _≡_, _≤?_}
+use Rattle.text.proofs.Prelude.{needs, arith, sym, _∙_, yes≤, no≤, is≤, isnt≤, tested}
 use native.Mathlib.Nat.{div-add-mod'}
 use lib.Dec.{leb}
-use Rattle.text.specs.Res.{_≤?_}
-use Rattle.text.proofs.Steps.{yes≤, no≤, is≤, isnt≤, tested}
 use Rattle.log.proofs.Ends.{by-test}
 use Rattle.listing_text.specs.Listing.{roomFor}
 use Rattle.listing_text.proofs.listing.has_room.Statement.{statement}

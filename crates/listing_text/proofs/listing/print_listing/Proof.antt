@@ -1,8 +1,5 @@
-use borrow.Author.Needs.{needs}
-use mathlib.Core.Path.{refl, sym, _∙_}
-use native.Mathlib.Omega.{arith}
-use denote.Ref.{now}
-use Rattle.text.proofs.Steps.{is≤}
+use Rattle.text.specs.Prelude.{now}
+use Rattle.text.proofs.Prelude.{needs, arith, refl, sym, _∙_, is≤}
 use Rattle.print.proofs.Printing.{no-room, written}
 use Rattle.listing_text.specs.Listing.{HasRoom}
 use Rattle.listing_text.proofs.Room.{has-room}

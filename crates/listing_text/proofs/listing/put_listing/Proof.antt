@@ -1,7 +1,5 @@
-use borrow.Author.Needs.{needs}
-use Prim.Native.Nat.{_-_}
-use native.Mathlib.Omega.{arith}
-use lib.ListN.{length}
+use Rattle.text.specs.Prelude.{_-_, length}
+use Rattle.text.proofs.Prelude.{needs, arith}
 use Rattle.put.proofs.Writing.{wrote-length}
 use Rattle.walk.proofs.Turns.{less-left}
 use Rattle.listing_text.proofs.Telling.{Telling, at-start, at-end, line}

@@ -1,4 +1,4 @@
-use Rattle.text.specs.Res.{pick, _=?_}
+use Rattle.text.specs.Prelude.{pick, _=?_}
 use Rattle.manufacturer.specs.Maker.{letterOf, known, firstOf, isLetter, letterMaker}
 use Rattle.manufacturer.proofs.Arms.{in-arm, letter-unknown}
 use Rattle.manufacturer.proofs.Manufacturer.parse_single_char.Statement.{statement}

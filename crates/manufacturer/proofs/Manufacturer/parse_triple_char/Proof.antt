@@ -1,7 +1,5 @@
-use borrow.Author.Needs.{needs}
-use mathlib.Core.Path.{_≡_, sym, ap, _∙_}
-use Prim.Native.Nat.{ℕ}
-use Rattle.text.specs.Res.{pick, _=?_, _∧?_}
+use Rattle.text.specs.Prelude.{ℕ, _≡_, pick, _=?_, _∧?_}
+use Rattle.text.proofs.Prelude.{needs, sym, ap, _∙_}
 use Rattle.manufacturer.specs.Maker.{spelt, tripleOf, known, firstOf, isTriple, tripleMaker, tripleNumber}
 use Rattle.manufacturer.specs.declared.Manufacturer.{Manufacturer}
 use Rattle.manufacturer.proofs.Arms.{in-arm, tripleBytes, tripleBytes-number, triple-unknown}

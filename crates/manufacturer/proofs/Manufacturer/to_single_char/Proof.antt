@@ -1,5 +1,4 @@
-use borrow.Author.Needs.{needs}
-use mathlib.Core.Path.{refl}
+use Rattle.text.proofs.Prelude.{needs, refl}
 use Rattle.manufacturer.specs.Maker.{letterOf}
 use Rattle.manufacturer.proofs.Arms.{in-arm}
 use Rattle.manufacturer.proofs.Manufacturer.to_single_char.Statement.{statement}

@@ -1,5 +1,4 @@
-use borrow.Author.Needs.{needs}
-use mathlib.Core.Path.{refl}
+use Rattle.text.proofs.Prelude.{needs, refl}
 use Rattle.manufacturer.specs.Maker.{tripleOf, spelt}
 use Rattle.manufacturer.proofs.Arms.{in-arm}
 use Rattle.manufacturer.proofs.Manufacturer.to_triple_char.Statement.{statement}

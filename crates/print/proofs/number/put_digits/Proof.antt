@@ -1,13 +1,8 @@
-use mathlib.Core.Path.{_≡_, refl, _∙_}
-use Prim.Native.Nat.{suc, _-_}
-use native.Mathlib.Omega.{arith}
-use lib.ListN.{length}
-use lib.Seq.{sets}
-use Rattle.text.specs.Number.{digits}
+use Rattle.text.specs.Prelude.{suc, _-_, _≡_, length, digits}
+use Rattle.text.proofs.Prelude.{needs, arith, refl, _∙_, sets}
 use Rattle.text.proofs.Decimal.{length-digits}
 use Rattle.put.proofs.Writing.{wrote-length, wrote-past}
 use Rattle.print.proofs.Numbers.{digit-before}
-use borrow.Author.Needs.{needs}
 use Rattle.print.proofs.number.put_digits.Statement.{statement}
 use Rattle.print.proofs.number.put_digits.Tie as tie
 

@@ -1,4 +1,4 @@
-use borrow.Author.Needs.{needs}
+use Rattle.text.proofs.Prelude.{needs}
 use mir.Syntax.{w8, w64}
 use Rattle.text.proofs.Signs.{widens, widened}
 use Rattle.print.proofs.number.put_i8.Statement.{statement}

@@ -1,5 +1,5 @@
-use borrow.Author.Needs.{needs}
-use mathlib.Core.Path.{_≡_, sym, ap, _∙_}
+use Rattle.text.specs.Prelude.{_≡_}
+use Rattle.text.proofs.Prelude.{needs, sym, ap, _∙_}
 use mir.Facts.{toZ-ofZ}
 use Rattle.print.specs.Signed.{splitOf}
 use Rattle.put.proofs.Writing.{then}

@@ -1,5 +1,5 @@
-use borrow.Author.Needs.{needs}
-use Rattle.text.specs.Number.{padded}
+use Rattle.text.specs.Prelude.{padded}
+use Rattle.text.proofs.Prelude.{needs}
 use Rattle.put.proofs.Writing.{then}
 use Rattle.print.proofs.number.put_nat.Statement.{statement}
 use Rattle.print.proofs.number.put_nat.Tie as tie

@@ -1,9 +1,6 @@
-use Prim.Native.Nat.{ℕ, _≤_, _-_, _+_}
-use mathlib.Core.Path.{_≡_, refl}
-use mathlib.Core.List.{List}
-use native.Mathlib.Omega.{arith}
-use lib.ListN.{replicate, length-replicate, replicate-append-replicate}
-use borrow.Author.Needs.{needs}
+use Rattle.text.specs.Prelude.{ℕ, _+_, _-_, _≤_, _≡_, List, replicate}
+use Rattle.text.proofs.Prelude.{needs, arith, refl}
+use lib.ListN.{length-replicate, replicate-append-replicate}
 use Rattle.put.specs.Put.{Wrote}
 use Rattle.put.proofs.Writing.{then, wrote-length, wrote-nothing, wrote-past}
 use Rattle.print.proofs.number.put_zeros.Statement.{statement}

@@ -1,10 +1,8 @@
 -- The only proof about signed arithmetic: z is negsuc k below 0 and pos k else.
-use mathlib.Core.Path.{_≡_, refl, sym, ap, _∙_, subst}
-use mathlib.Core.Bool.{true, false}
-use Prim.Native.Nat.{ℕ, zero, suc, _+_, _<_, _^_}
+use Rattle.text.specs.Prelude.{ℕ, zero, suc, _+_, _^_, _<_, _≡_, true, false, ℤ, pos, negsuc}
+use Rattle.text.proofs.Prelude.{arith, refl, sym, ap, _∙_, subst}
 use native.Mathlib.Numerals.{add-one}
-use native.Mathlib.Omega.{arith}
-use lib.IntN.{ℤ, pos, negsuc, negℤ, natAbs, _+ℤ_, _-ℤ_, +ℤ-one, +ℤ-idl}
+use lib.IntN.{negℤ, natAbs, _+ℤ_, _-ℤ_, +ℤ-one, +ℤ-idl}
 use lib.Signed.{ltZ, nonNeg}
 use lib.Dec.{T}
 use mir.Syntax.{w64}

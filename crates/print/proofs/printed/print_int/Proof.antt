@@ -1,5 +1,4 @@
-use borrow.Author.Needs.{needs}
-use mathlib.Core.Path.{refl}
+use Rattle.text.proofs.Prelude.{needs, refl}
 use mir.Facts.{toZ-ofZ}
 use Rattle.print.proofs.Printing.{no-room, written}
 use Rattle.print.proofs.printed.print_int.Statement.{statement}

@@ -1,4 +1,4 @@
-use borrow.Author.Needs.{needs}
+use Rattle.text.proofs.Prelude.{needs}
 use Rattle.record_text.specs.Piece.{flightShown}
 use Rattle.record_text.proofs.piece.show_flight.Statement.{statement}
 use Rattle.record_text.proofs.piece.show_flight.Tie as tie

@@ -1,9 +1,5 @@
-use borrow.Author.Needs.{needs}
-use Prim.Native.Nat.{_-_, _≤_, _<_}
-use mathlib.Core.Path.{_≡_, refl}
-use native.Mathlib.Omega.{arith}
-use lib.ListN.{length, take}
-use lib.Seq.{take-all}
+use Rattle.text.specs.Prelude.{_-_, _≤_, _<_, _≡_, length, take}
+use Rattle.text.proofs.Prelude.{needs, arith, refl, take-all}
 use Rattle.put.specs.Put.{Wrote}
 use Rattle.put.proofs.Writing.{wrote-length, wrote-nothing}
 use Rattle.log.specs.Fold.{texts}

@@ -1,5 +1,4 @@
-use borrow.Author.Needs.{needs}
-use native.Mathlib.Omega.{arith}
+use Rattle.text.proofs.Prelude.{needs, arith}
 use Rattle.put.proofs.Writing.{wrote-nothing}
 use Rattle.record_text.specs.Record.{recordShown}
 use Rattle.record_text.proofs.record.show_record.Statement.{statement}

@@ -1,10 +1,5 @@
-use borrow.Author.Needs.{needs}
-use Prim.Native.Nat.{ℕ, _+_, _*_, _<_}
-use mathlib.Core.Path.{_≡_}
-use mathlib.Core.List.{List}
-use native.Mathlib.Omega.{arith}
-use denote.Ref.{now}
-use lib.ListN.{length}
+use Rattle.text.specs.Prelude.{ℕ, _+_, _*_, _<_, _≡_, List, length, now}
+use Rattle.text.proofs.Prelude.{needs, arith}
 use Rattle.table.proofs.Defs.{long-under}
 use Rattle.held.specs.declared.Held.{Held}
 use Rattle.record_text.specs.Value.{tableNames, namesIn}

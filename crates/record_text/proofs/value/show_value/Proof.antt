@@ -1,4 +1,4 @@
-use borrow.Author.Needs.{needs}
+use Rattle.text.proofs.Prelude.{needs}
 use Rattle.put.proofs.Writing.{then}
 use Rattle.record_text.specs.Value.{valueShown}
 use Rattle.record_text.proofs.value.show_value.Statement.{statement}

@@ -1,9 +1,5 @@
-use borrow.Author.Needs.{needs}
-use Prim.Native.Nat.{ℕ, _-_, _≤_}
-use native.Mathlib.Omega.{arith}
-use lib.ListN.{take}
-use lib.Seq.{take-all}
-use denote.Ref.{now}
+use Rattle.text.specs.Prelude.{ℕ, _-_, _≤_, take, now}
+use Rattle.text.proofs.Prelude.{needs, arith, take-all}
 use Rattle.put.specs.Put.{Wrote}
 use Rattle.put.proofs.Writing.{wrote-length, wrote-nothing}
 use Rattle.log.specs.Fold.{texts}

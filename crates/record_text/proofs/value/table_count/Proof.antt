@@ -1,5 +1,4 @@
-use borrow.Author.Needs.{needs}
-use mathlib.Core.Path.{sym, _∙_}
+use Rattle.text.proofs.Prelude.{needs, sym, _∙_}
 use Rattle.held.specs.Held.{isSet}
 use Rattle.record_text.proofs.Names.{no-names, count-names}
 use Rattle.record_text.proofs.value.table_count.Statement.{statement}

@@ -1,4 +1,4 @@
-use borrow.Author.Needs.{needs}
+use Rattle.text.proofs.Prelude.{needs}
 use Rattle.records.specs.Record.{answerFix}
 use Rattle.records.proofs.Reading.fix.Statement.{statement}
 use Rattle.records.proofs.Reading.fix.Tie as tie

@@ -1,4 +1,4 @@
-use borrow.Author.Needs.{needs}
+use Rattle.text.proofs.Prelude.{needs}
 use Rattle.records.specs.Record.{recordBook}
 use Rattle.records.proofs.Record.by_the_book.Statement.{statement}
 use Rattle.records.proofs.Record.by_the_book.Tie as tie

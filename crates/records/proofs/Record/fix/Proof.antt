@@ -1,4 +1,4 @@
-use borrow.Author.Needs.{needs}
+use Rattle.text.proofs.Prelude.{needs}
 use Rattle.records.specs.Record.{recordFix}
 use Rattle.records.proofs.Record.fix.Statement.{statement}
 use Rattle.records.proofs.Record.fix.Tie as tie

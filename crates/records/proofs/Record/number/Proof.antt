@@ -1,4 +1,4 @@
-use borrow.Author.Needs.{needs}
+use Rattle.text.proofs.Prelude.{needs}
 use Rattle.records.specs.Record.{acceptedAs}
 use Rattle.records.proofs.Record.number.Statement.{statement}
 use Rattle.records.proofs.Record.number.Tie as tie

@@ -1,12 +1,5 @@
-use borrow.Author.Needs.{needs}
-use Prim.Native.Nat.{ℕ}
-use mathlib.Core.Path.{_≡_, refl, ap}
-use mathlib.Core.List.{List}
-use native.Mathlib.Omega.{arith}
-use denote.Ref.{now}
-use Rattle.text.specs.Res.{Res, ok, no, pick, _=?_, _∨?_}
-use Rattle.text.specs.Line.{byte}
-use Rattle.text.proofs.Steps.{came, on, off, pass, stop, yes≤, no≤, no=}
+use Rattle.text.specs.Prelude.{ℕ, _≡_, List, now, Res, ok, no, pick, _=?_, _∨?_, byte}
+use Rattle.text.proofs.Prelude.{needs, arith, refl, ap, came, on, off, pass, stop, yes≤, no≤, no=}
 use Rattle.a_record.specs.ARecord.{readA, aRes}
 use Rattle.h_record.specs.HRecord.{readH, hRes}
 use Rattle.records.specs.declared.Record.{Record}

@@ -1,4 +1,4 @@
-use borrow.Author.Needs.{needs}
+use Rattle.text.proofs.Prelude.{needs}
 use Rattle.records.specs.Record.{recordText}
 use Rattle.records.proofs.Record.print.Statement.{statement}
 use Rattle.records.proofs.Record.print.Tie as tie

@@ -1,4 +1,4 @@
-use borrow.Author.Needs.{needs}
+use Rattle.text.proofs.Prelude.{needs}
 use Rattle.records.specs.Record.{recordPiece}
 use Rattle.records.proofs.Record.put_piece.Statement.{statement}
 use Rattle.records.proofs.Record.put_piece.Tie as tie

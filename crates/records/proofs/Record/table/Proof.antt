@@ -1,4 +1,4 @@
-use borrow.Author.Needs.{needs}
+use Rattle.text.proofs.Prelude.{needs}
 use Rattle.records.specs.Record.{recordTable}
 use Rattle.records.proofs.Record.table.Statement.{statement}
 use Rattle.records.proofs.Record.table.Tie as tie

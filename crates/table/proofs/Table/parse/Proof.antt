@@ -1,15 +1,7 @@
-use borrow.Author.Needs.{needs}
-use Prim.Native.Nat.{ℕ, _≤_}
-use mathlib.Core.Path.{_≡_, refl, ap, _∙_}
-use mathlib.Core.Bool.{true}
-use mathlib.Core.List.{List}
-use native.Mathlib.Omega.{arith}
-use lib.ListN.{length, length-take, length-drop}
-use denote.Ref.{now}
-use Rattle.text.specs.Res.{ok, no}
-use Rattle.text.specs.Number.{readNat, u8Res}
-use Rattle.text.proofs.Steps.{came, on, off, pass, stop, yes≤, no≤, yes=, no=, so-true, so-false}
-use Rattle.text.specs.Line.{byte, cut, columns}
+use Rattle.text.specs.Prelude.{ℕ, _≤_, _≡_, true, List, length, now, ok, no, byte, cut, columns, readNat}
+use Rattle.text.proofs.Prelude.{needs, arith, refl, ap, _∙_, length-drop, length-take, came, on, off, pass, stop, yes≤}
+use Rattle.text.proofs.Prelude.{no≤, yes=, no=, so-true, so-false}
+use Rattle.text.specs.Number.{u8Res}
 use Rattle.field.specs.Field.{isAscii, asciiIn, ascii}
 use Rattle.table.specs.Table.{isTable, readBody, readTable, tableRead}
 use Rattle.table.proofs.Counts.{two-characters}

@@ -1,8 +1,5 @@
-use Prim.Native.Nat.{_-_}
-use mathlib.Core.Path.{ap}
-use native.Mathlib.Omega.{arith}
-use borrow.Author.Needs.{needs}
-use Rattle.text.proofs.Steps.{came}
+use Rattle.text.specs.Prelude.{_-_}
+use Rattle.text.proofs.Prelude.{needs, arith, ap, came}
 use Rattle.extension.specs.Extension.{extensionRes}
 use Rattle.table.specs.Table.{tableOf, tableRead}
 use Rattle.table.proofs.Defs.{Turn, turn-start, turn-refuses, turn-next, turn-done}

@@ -1,6 +1,4 @@
-use borrow.Author.Needs.{needs}
-use mathlib.Core.Path.{refl}
-use Rattle.text.proofs.Steps.{pass, stop, yes≤, no≤}
+use Rattle.text.proofs.Prelude.{needs, refl, pass, stop, yes≤, no≤}
 use Rattle.print.proofs.Printing.{refused, no-room, written}
 use Rattle.table.specs.Table.{tableText}
 use Rattle.table.proofs.Table.print.Statement.{statement}

@@ -1,8 +1,5 @@
-use Prim.Native.Nat.{_≤_, _-_}
-use mathlib.Core.Path.{_≡_}
-use native.Mathlib.Omega.{arith}
-use lib.ListN.{length, take}
-use borrow.Author.Needs.{needs}
+use Rattle.text.specs.Prelude.{_-_, _≤_, _≡_, length, take}
+use Rattle.text.proofs.Prelude.{needs, arith}
 use Rattle.put.specs.Put.{Wrote}
 use Rattle.put.proofs.Writing.{wrote-length, wrote-nothing}
 use Rattle.table.specs.Table.{defsText, defsOf}

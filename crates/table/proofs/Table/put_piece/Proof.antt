@@ -1,4 +1,4 @@
-use borrow.Author.Needs.{needs}
+use Rattle.text.proofs.Prelude.{needs}
 use Rattle.put.proofs.Writing.{then}
 use Rattle.table.specs.Table.{tableBody}
 use Rattle.table.proofs.Table.put_piece.Statement.{statement}

@@ -1,4 +1,4 @@
-use borrow.Author.Needs.{needs}
+use Rattle.text.proofs.Prelude.{needs}
 use Rattle.files.specs.Outcome.{cutsShort}
 use Rattle.files.proofs.outcome.Outcome.cuts_short.Statement.{statement}
 use Rattle.files.proofs.outcome.Outcome.cuts_short.Tie as tie

@@ -1,4 +1,4 @@
-use borrow.Author.Needs.{needs}
+use Rattle.text.proofs.Prelude.{needs}
 use Rattle.files.specs.Outcome.{hasFailed}
 use Rattle.files.proofs.outcome.Outcome.has_failed.Statement.{statement}
 use Rattle.files.proofs.outcome.Outcome.has_failed.Tie as tie

@@ -1,4 +1,4 @@
-use borrow.Author.Needs.{needs}
+use Rattle.text.proofs.Prelude.{needs}
 use Rattle.files.specs.Outcome.{outcomeAfter}
 use Rattle.files.proofs.outcome.Outcome.of_filled.Statement.{statement}
 use Rattle.files.proofs.outcome.Outcome.of_filled.Tie as tie

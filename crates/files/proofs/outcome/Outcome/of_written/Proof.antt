@@ -1,4 +1,4 @@
-use borrow.Author.Needs.{needs}
+use Rattle.text.proofs.Prelude.{needs}
 use Rattle.files.specs.Outcome.{outcomeOf}
 use Rattle.files.proofs.outcome.Outcome.of_written.Statement.{statement}
 use Rattle.files.proofs.outcome.Outcome.of_written.Tie as tie

@@ -1,9 +1,5 @@
-use borrow.Author.Needs.{needs}
-use mathlib.Core.Path.{_≡_, refl, sym, _∙_}
-use mathlib.Core.Bool.{true}
-use denote.Ref.{now}
-use Rattle.text.proofs.Steps.{first, second, yes=, no=}
-use Rattle.text.specs.Line.{begins}
+use Rattle.text.specs.Prelude.{_≡_, true, now, begins}
+use Rattle.text.proofs.Prelude.{needs, refl, sym, _∙_, first, second, yes=, no=}
 use Rattle.listing_text.specs.Trailer.{forceAfter}
 use Rattle.listing_text.proofs.Answers.{number-is}
 use Rattle.listing_text.proofs.trailer.Offset.after.Statement.{statement}

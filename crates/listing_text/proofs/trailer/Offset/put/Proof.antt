@@ -1,4 +1,4 @@
-use borrow.Author.Needs.{needs}
+use Rattle.text.proofs.Prelude.{needs}
 use Rattle.listing_text.specs.Line.{plain}
 use Rattle.listing_text.specs.Trailer.{offsetText}
 use Rattle.listing_text.proofs.trailer.Offset.put.Statement.{statement}

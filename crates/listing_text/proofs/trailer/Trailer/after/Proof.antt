@@ -1,9 +1,6 @@
-use borrow.Author.Needs.{needs}
-use mathlib.Core.Path.{_≡_, refl, sym, _∙_}
+use Rattle.text.specs.Prelude.{_≡_, pick}
+use Rattle.text.proofs.Prelude.{needs, arith, refl, sym, _∙_, first, second, yes≤, no≤, holds, fails}
 use native.Mathlib.Nat.{add-zero}
-use native.Mathlib.Omega.{arith}
-use Rattle.text.specs.Res.{pick}
-use Rattle.text.proofs.Steps.{first, second, yes≤, no≤, holds, fails}
 use Rattle.listing_text.specs.Trailer.{counted, tallied}
 use Rattle.listing_text.proofs.trailer.Trailer.after.Statement.{statement}
 use Rattle.listing_text.proofs.trailer.Trailer.after.Tie as tie
