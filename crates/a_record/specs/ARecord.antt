@@ -38,7 +38,8 @@ readTriple s =
     (asciiIn (cut 0 4 s) (ok (aOf s (tripleMaker (triple s)) 4 5)))
     (asciiIn (cut 0 7 s) (ok (aOf s (tripleMaker (triple s)) 4 3)))
 
--- Under 7 bytes 1; a first byte other than A 1; the letter form: column 1 ASCII (2), maker by letter, id 2-7, rest from 7; else a triple.
+-- Under 7 bytes 1; a first byte other than A 1; the letter form: column 1 ASCII (2), maker by letter, id 2-7, rest from
+-- 7; else a triple.
 unfoldable pub readA : List ℕ → Res ARecord
 readA s =
     guard (7 ≤? length s) Syntax

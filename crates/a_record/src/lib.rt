@@ -131,7 +131,8 @@ impl ARecord {
     // The text as a piece of a larger one, from a place on: bytes that are too short cut it, and what lies outside the
     // line is left out. `print` is the printer.
     pub fn put_piece(self, buf: &mut [u8], at: usize, line: &[u8]) -> usize
-        ensures { λ r. ⌜ Wrote (now (buf .entry)) at (aBody self (partBytes (self .«unique_id») (now (line .entry))) (maybeBytes (self .«id_extension») (now (line .entry)))) (now (buf .exit)) r ⌝ }
+        ensures { λ r. ⌜ Wrote (now (buf .entry)) at (aBody self (partBytes (self .«unique_id») (now (line .entry)))
+            (maybeBytes (self .«id_extension») (now (line .entry)))) (now (buf .exit)) r ⌝ }
     {
         let maker = self.manufacturer;
         let id = self.unique_id;

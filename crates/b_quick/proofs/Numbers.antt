@@ -72,7 +72,8 @@ plain-numbers s l h =
     }
 
 -- they are at most five, as the code asks
-pub at-most-five : {a b : ℕ} {s : List ℕ} → Digits a b s → b - a ≤ 5 → (allDigits (cut a b s) ≡ true) × (length (cut a b s) ≤ 5)
+pub at-most-five : {a b : ℕ} {s : List ℕ} → Digits a b s → b - a ≤ 5 → (allDigits (cut a b s) ≡ true)
+    × (length (cut a b s) ≤ 5)
 at-most-five d h = (d .all, omega (arith, d .wide))
 
 -- ---- numbers of digits alone
@@ -91,7 +92,8 @@ pub number-within : {a b most v : ℕ} {s : List ℕ} → Written (cut a b s) v 
 number-within w h = record { digits = w; fits = h }
 
 -- two digits fit into a byte
-pub two-digits-fit : {a b v : ℕ} {s : List ℕ} → Digits a b s → v ≡ valueFrom 0 (cut a b s) → b - a ≤ 2 → Number a b 255 s v
+pub two-digits-fit : {a b v : ℕ} {s : List ℕ} → Digits a b s → v ≡ valueFrom 0 (cut a b s) → b - a ≤ 2
+    → Number a b 255 s v
 two-digits-fit {a} {b} {s = s} d e h =
     number-within (digits-written d e) (omega (arith, value-below 2 (cut a b s) (d .all) (omega (arith, d .wide))))
 

@@ -6,7 +6,8 @@ ghost use Rattle.part.specs.Part.{findPart, partBytes, shown, Shows, foundRes};
 ghost use Rattle.extension.specs.Value.{findValue};
 ghost use Rattle.put.specs.Put.{Wrote};
 ghost use Rattle.print.specs.Print.{Prints};
-ghost use Rattle.b_record.specs.BRecord.{pressureText, gpsText, validLetter, validOf, readHeights, readB, tailText, bBody, bText, bBook, validRes, heightsRes, bRes};
+ghost use Rattle.b_record.specs.BRecord.{pressureText, gpsText, validLetter, validOf, readHeights, readB};
+ghost use Rattle.b_record.specs.BRecord.{tailText, bBody, bText, bBook, validRes, heightsRes, bRes};
 use coord::position::PositionRead;
 use coord::position::RawPosition;
 use datetime::Time;
@@ -198,7 +199,8 @@ impl BRecord {
 
     // From the fix's letter on.
     fn put_tail(self, buf: &mut [u8], at: usize, line: &[u8]) -> usize
-        ensures { λ r. ⌜ Wrote (now (buf .entry)) at (tailText self (partBytes (self .rest) (now (line .entry)))) (now (buf .exit)) r ⌝ }
+        ensures { λ r. ⌜ Wrote (now (buf .entry)) at (tailText self (partBytes (self .rest) (now (line .entry))))
+            (now (buf .exit)) r ⌝ }
     {
         let fix_valid = self.fix_valid;
         let pressure = self.pressure_alt;
@@ -213,7 +215,8 @@ impl BRecord {
     // The text as a piece of a larger one, from a place on: bytes that are too short cut it, and what lies outside the
     // line is left out. `print` is the printer.
     pub fn put_piece(self, buf: &mut [u8], at: usize, line: &[u8]) -> usize
-        ensures { λ r. ⌜ Wrote (now (buf .entry)) at (bBody self (partBytes (self .rest) (now (line .entry)))) (now (buf .exit)) r ⌝ }
+        ensures { λ r. ⌜ Wrote (now (buf .entry)) at (bBody self (partBytes (self .rest) (now (line .entry))))
+            (now (buf .exit)) r ⌝ }
     {
         let timestamp = self.timestamp;
         let pos = self.pos;

@@ -20,8 +20,10 @@ use Rattle.walk.proofs.Laws.{viewed, step-on}
 abbrev pub carriedBy : {T : Type 0} → Walk → T → Carried Held T
 carriedBy w a = record { number = w .at .number; place = w .at .place; held = w .held; made = a }
 
-module _ {T : Type 0} {step : T → Line-read → T} {a₀ a : T} {s : List ℕ} {w : Walk} {t : Step} (short : length s ≤ largest)
-    (i : w .at .place < length s) (r : Reached reader step (fresh reader a₀) s (w .at .place) (carriedBy w a)) (e : t ≡ stepOf s w) where
+module _ {T : Type 0} {step : T → Line-read → T} {a₀ a : T} {s : List ℕ} {w : Walk} {t : Step}
+    (short : length s ≤ largest)
+    (i : w .at .place < length s) (r : Reached reader step (fresh reader a₀) s (w .at .place) (carriedBy w a))
+    (e : t ≡ stepOf s w) where
   abbrev here : List ℕ
   here = bytesOf (cutAt (w .at .place) s .line) s
 

@@ -31,7 +31,8 @@ readTask s =
     bind (columns 23 25 (readInt 127) s) (λ count.
     ok (record { id = id; count = count })))
 
--- 25 bytes (1), the first C (1), those ASCII (2), date 1-7, time 7-13, flight date 13-19, task, count, name; an empty name is none.
+-- 25 bytes (1), the first C (1), those ASCII (2), date 1-7, time 7-13, flight date 13-19, task, count, name; an empty
+-- name is none.
 unfoldable pub readDeclaration : List ℕ → Res CRecordDeclaration
 readDeclaration s =
     guard (25 ≤? length s) Syntax
@@ -56,7 +57,8 @@ flightText (On d) = dateText d
 
 -- Flight date, task in width 4, count in 2, name.
 unfoldable pub taskText : CRecordDeclaration → List ℕ → List ℕ
-taskText r name = flightText (r .«flight_date») ++ (padded 4 (r .«task_id») ++ (signed 2 (r .«turnpoint_count») ++ name))
+taskText r name = flightText (r .«flight_date»)
+    ++ (padded 4 (r .«task_id») ++ (signed 2 (r .«turnpoint_count») ++ name))
 
 -- The letter, date, time, and these.
 unfoldable pub declarationBody : CRecordDeclaration → List ℕ → List ℕ

@@ -8,7 +8,9 @@ ghost use Rattle.part.specs.Part.{findMaybe, maybeBytes, shown, Shows};
 ghost use Rattle.text.specs.Number.{zeros};
 ghost use Rattle.put.specs.Put.{Wrote};
 ghost use Rattle.print.specs.Print.{Prints};
-ghost use Rattle.c_record.specs.CRecord.{turns, readFlight, readTask, readDeclaration, flightText, taskText, declarationBody, declarationText, flightBook, declarationBook, flightRes, taskRes, declarationRes};
+ghost use Rattle.c_record.specs.CRecord.{turns, readFlight, readTask, readDeclaration, flightText, taskText};
+ghost use Rattle.c_record.specs.CRecord.{declarationBody, declarationText, flightBook, declarationBook};
+ghost use Rattle.c_record.specs.CRecord.{flightRes, taskRes, declarationRes};
 use coord::position::RawPosition;
 use datetime::Date;
 use datetime::DateRead;
@@ -207,7 +209,8 @@ impl CRecordDeclaration {
 
     // From the flight date on.
     fn put_task(self, buf: &mut [u8], at: usize, line: &[u8]) -> usize
-        ensures { λ r. ⌜ Wrote (now (buf .entry)) at (taskText self (maybeBytes (self .«task_name») (now (line .entry)))) (now (buf .exit)) r ⌝ }
+        ensures { λ r. ⌜ Wrote (now (buf .entry))
+            at (taskText self (maybeBytes (self .«task_name») (now (line .entry)))) (now (buf .exit)) r ⌝ }
     {
         let flight = self.flight_date;
         let name = self.task_name;
@@ -220,7 +223,8 @@ impl CRecordDeclaration {
     // The text as a piece of a larger one, from a place on: bytes that are too short cut it, and what lies outside the
     // line is left out. `print` is the printer.
     pub fn put_piece(self, buf: &mut [u8], at: usize, line: &[u8]) -> usize
-        ensures { λ r. ⌜ Wrote (now (buf .entry)) at (declarationBody self (maybeBytes (self .«task_name») (now (line .entry)))) (now (buf .exit)) r ⌝ }
+        ensures { λ r. ⌜ Wrote (now (buf .entry))
+            at (declarationBody self (maybeBytes (self .«task_name») (now (line .entry)))) (now (buf .exit)) r ⌝ }
     {
         let date = self.date;
         let time = self.time;

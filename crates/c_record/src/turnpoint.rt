@@ -3,7 +3,8 @@ ghost use mathlib.Core.Path.{_≡_};
 ghost use Rattle.part.specs.Part.{findMaybe, maybeBytes, shown, Shows};
 ghost use Rattle.put.specs.Put.{Wrote};
 ghost use Rattle.print.specs.Print.{Prints};
-ghost use Rattle.c_record.specs.CRecord.{readTurnpoint, turnpointBody, turnpointText, turnpointBook, turnpointRes};
+ghost use Rattle.c_record.specs.CRecord.{readTurnpoint, turnpointBody, turnpointText, turnpointBook};
+ghost use Rattle.c_record.specs.CRecord.{turnpointRes};
 use crate::CRecordTurnpoint;
 use crate::TurnpointRead;
 use coord::position::PositionRead;
@@ -56,7 +57,8 @@ impl CRecordTurnpoint {
     // The text as a piece of a larger one, from a place on: bytes that are too short cut it, and what lies outside the
     // line is left out. `print` is the printer.
     pub fn put_piece(self, buf: &mut [u8], at: usize, line: &[u8]) -> usize
-        ensures { λ r. ⌜ Wrote (now (buf .entry)) at (turnpointBody self (maybeBytes (self .«turnpoint_name») (now (line .entry)))) (now (buf .exit)) r ⌝ }
+        ensures { λ r. ⌜ Wrote (now (buf .entry))
+            at (turnpointBody self (maybeBytes (self .«turnpoint_name») (now (line .entry)))) (now (buf .exit)) r ⌝ }
     {
         let position = self.position;
         let name = self.turnpoint_name;

@@ -18,6 +18,7 @@ sixty-thousand binary64 = refl
 
 -- what the code computes, by the direction
 pub by-sign : (f : Format) (c : RawCoord) {s : Compass} → c .sign ≡ s
-    → bySign s (add f (ofInt f (pos (c .degrees))) (div f (ofInt f (pos (c .«minute_thousandths»))) (ofBits f (bits f)))) ≡ degreesOf f c
+    → bySign s (add f (ofInt f (pos (c .degrees)))
+    (div f (ofInt f (pos (c .«minute_thousandths»))) (ofBits f (bits f)))) ≡ degreesOf f c
 unfolding degreesOf
 by-sign f c e = rw (e, sixty-thousand f)

@@ -41,7 +41,8 @@ readCoord d limit x y s =
 -- Degrees at most the limit, thousandths below 60000, the letter of x or of y; 4 else.
 unfoldable pub newCoord : ℕ → Compass → Compass → ℕ → ℕ → Compass → Res RawCoord
 newCoord limit x y g t sign =
-    guard ((g ≤? limit) ∧? (t ≤? 59999) ∧? ((compassLetter sign =? compassLetter x) ∨? (compassLetter sign =? compassLetter y))) OutOfRange
+    guard ((g ≤? limit) ∧? (t ≤? 59999)
+    ∧? ((compassLetter sign =? compassLetter x) ∨? (compassLetter sign =? compassLetter y))) OutOfRange
     (ok (record { degrees = g; «minute_thousandths» = t; sign = sign }))
 
 -- Degrees in width d, thousandths in width 5, the letter.

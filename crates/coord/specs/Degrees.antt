@@ -13,4 +13,5 @@ bySign West x = neg x
 
 -- Degrees + thousandths / 60000.
 unfoldable pub degreesOf : Format → RawCoord → Float
-degreesOf f c = bySign (c .sign) (add f (ofInt f (pos (c .degrees))) (div f (ofInt f (pos (c .«minute_thousandths»))) (ofInt f (pos 60000))))
+degreesOf f c = bySign (c .sign)
+    (add f (ofInt f (pos (c .degrees))) (div f (ofInt f (pos (c .«minute_thousandths»))) (ofInt f (pos 60000))))

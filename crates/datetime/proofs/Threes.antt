@@ -17,7 +17,8 @@ abbrev pub madeBy : {A : Type 0} → (ℕ → ℕ → ℕ → Res A) → Three �
 madeBy make t = make (t .0) (t .1) (t .2)
 
 three-each : {A : Type 0} (make : ℕ → ℕ → ℕ → Res A) (x y z : Res ℕ)
-    → bind x (λ a. bind y (λ b. bind z (λ c. make a b c))) ≡ bind (bind x (λ a. bind y (λ b. bind z (λ c. together a b c)))) (madeBy make)
+    → bind x (λ a. bind y (λ b. bind z (λ c. make a b c)))
+    ≡ bind (bind x (λ a. bind y (λ b. bind z (λ c. together a b c)))) (madeBy make)
 unfolding bind
 three-each make (ok a) (ok b) (ok c) = refl
 three-each make (ok a) (ok b) (no n) = refl
@@ -28,4 +29,5 @@ pub three-then : {A : Type 0} (make : ℕ → ℕ → ℕ → Res A) (s : List �
     bind (sized 6 (readThree together) s) (madeBy make) ≡ sized 6 (readThree make) s
 unfolding sized readThree
 three-then make s =
-    sym (guard-bind _ _ _ (madeBy make)) ∙ rw (three-each make (columns 0 2 (readNat 255) s) (columns 2 4 (readNat 255) s) (columns 4 6 (readNat 255) s))
+    sym (guard-bind _ _ _ (madeBy make))
+    ∙ rw (three-each make (columns 0 2 (readNat 255) s) (columns 2 4 (readNat 255) s) (columns 4 6 (readNat 255) s))

@@ -8,7 +8,8 @@ use Rattle.part.proofs.Parts.{inside, shown-found}
 use Rattle.extension.specs.Value.{findValue}
 use Rattle.extension.specs.declared.Extension.{Extension}
 
-value-inside : (base : ℕ) (rest : Part) (e : Extension) (s : List ℕ) → Finds (findValue base rest e s) (λ v. v .start + v .len ≤ length s)
+value-inside : (base : ℕ) (rest : Part) (e : Extension) (s : List ℕ) → Finds (findValue base rest e s)
+    (λ v. v .start + v .len ≤ length s)
 unfolding findValue
 value-inside base rest e s =
     finds-bind (record { found = λ r h. inside rest s (sym h) }) (λ r i.
@@ -16,7 +17,8 @@ value-inside base rest e s =
     finds-ok (omega (arith, i .ends, is≤ a, is≤ b, is≤ c))))))
 
 -- so a view of it shows it
-pub value-shown : (base : ℕ) (rest : Part) (e : Extension) (s : List ℕ) {v : Part} → ok v ≡ findValue base rest e s → shown (findPart v s) ≡ shown (findValue base rest e s)
+pub value-shown : (base : ℕ) (rest : Part) (e : Extension) (s : List ℕ) {v : Part} → ok v ≡ findValue base rest e s
+    → shown (findPart v s) ≡ shown (findValue base rest e s)
 unfolding findPart
 value-shown base rest e s {v} h =
     shown-found (pass _ (yes≤ (value-inside base rest e s .found v (sym h))) refl) ∙ sym (shown-found h)

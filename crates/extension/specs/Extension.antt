@@ -12,7 +12,11 @@ readDefinition s =
     bind (columns 0 2 (readNat 255) s) (λ start.
     bind (columns 2 4 (readNat 255) s) (λ end.
     guard (start ≤? end) BadExtension
-    (ok (record { «start_byte» = start; «end_byte» = end; mnemonic = record { 0 = byte 4 s; 1 = byte 5 s; 2 = byte 6 s } }))))
+    (ok (record {
+      «start_byte» = start;
+      «end_byte» = end;
+      mnemonic = record { 0 = byte 4 s; 1 = byte 5 s; 2 = byte 6 s };
+    }))))
 
 -- One definition by itself: a length other than 7 is 1, and there is no ASCII test.
 unfoldable pub readExtension : List ℕ → Res Extension

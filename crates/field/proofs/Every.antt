@@ -23,15 +23,19 @@ pub record Every (test : ℕ → Bool) (all : List ℕ → Bool) : Type 0 where
 
 module _ {test : ℕ → Bool} {all : List ℕ → Bool} (every : Every test all) (s : List ℕ) (i : ℕ) where
   -- the byte at i, and those after it, from j on
-  pub all-at : (j : ℕ) {rest : Bool} → j ≡ i + 1 → i < length s → all (drop j s) ≡ rest → all (drop i s) ≡ (test (getD s i 0) ∧? rest)
+  pub all-at : (j : ℕ) {rest : Bool} → j ≡ i + 1 → i < length s → all (drop j s) ≡ rest → all (drop i s)
+      ≡ (test (getD s i 0) ∧? rest)
   all-at j e inside q = rw (drop-cons s i 0 inside, ← q, e, add-one) (every .all-cons (getD s i 0) (drop (suc i) s))
 
   -- a turn of a loop with no way out: what is seen of the bytes before i and what is left, from here, are the whole
-  pub next-seen : (seen : Bool) {now t : Bool} → i < length s → (seen ∧? all (drop i s)) ≡ t → now ≡ (test (getD s i 0) ∧? seen) → (now ∧? all (drop (i + 1) s)) ≡ t
-  next-seen seen inside inv e = rw (e, ∧?-comm (test (getD s i 0)) seen) (∧?-assoc _ _ _ ∙ ap (λ left. seen ∧? left) (sym (all-at (i + 1) refl inside refl)) ∙ inv)
+  pub next-seen : (seen : Bool) {now t : Bool} → i < length s → (seen ∧? all (drop i s)) ≡ t → now
+      ≡ (test (getD s i 0) ∧? seen) → (now ∧? all (drop (i + 1) s)) ≡ t
+  next-seen seen inside inv e = rw (e, ∧?-comm (test (getD s i 0)) seen)
+      (∧?-assoc _ _ _ ∙ ap (λ left. seen ∧? left) (sym (all-at (i + 1) refl inside refl)) ∙ inv)
 
   pub all-seen : {seen t : Bool} → length s ≤ i → (seen ∧? all (drop i s)) ≡ t → seen ≡ t
-  all-seen {seen} past inv = sym (∧?-comm seen true ∙ holds refl refl) ∙ (rw (drop-of-length-le s past, every .all-nil) at inv)
+  all-seen {seen} past inv = sym (∧?-comm seen true ∙ holds refl refl)
+      ∙ (rw (drop-of-length-le s past, every .all-nil) at inv)
 
   -- a turn of a loop that is left at the first byte that fails: what is left, from here, is the whole
   module _ {t : Bool} (inside : i < length s) (inv : all (drop i s) ≡ t) where

@@ -26,7 +26,8 @@ fn put_book(buf: &mut [u8], at: usize, rec: Record) -> usize
 
 // The record as printed, behind ` =`.
 fn put_printed(buf: &mut [u8], at: usize, rec: Record, table: Table, line: &[u8]) -> usize
-    ensures { λ r. ⌜ Wrote (now (buf .entry)) at (printedShown (recordPiece rec table (now (line .entry)))) (now (buf .exit)) r ⌝ }
+    ensures { λ r. ⌜ Wrote (now (buf .entry)) at (printedShown (recordPiece rec table (now (line .entry))))
+        (now (buf .exit)) r ⌝ }
 {
     let at_sign = put_byte(buf, at, b' ');
     let at_text = put_byte(buf, at_sign, b'=');
@@ -35,7 +36,8 @@ fn put_printed(buf: &mut [u8], at: usize, rec: Record, table: Table, line: &[u8]
 
 // What is seen of an accepted line.
 fn put_seen(buf: &mut [u8], at: usize, rec: Record, held: Held, names: &[u8], line: &[u8]) -> usize
-    ensures { λ r. ⌜ Wrote (now (buf .entry)) at (seen rec held (now (names .entry)) (now (line .entry))) (now (buf .exit)) r ⌝ }
+    ensures { λ r. ⌜ Wrote (now (buf .entry)) at (seen rec held (now (names .entry)) (now (line .entry)))
+        (now (buf .exit)) r ⌝ }
 {
     let table = rec.table(line);
     let at_book = show_record(buf, at, rec, table, held, names, line);
@@ -52,7 +54,8 @@ fn put_fields(
     names: &[u8],
     line: &[u8],
 ) -> usize
-    ensures { λ r. ⌜ Wrote (now (buf .entry)) at (fieldsShown (readingRes reading) held (now (names .entry)) (now (line .entry))) (now (buf .exit)) r ⌝ }
+    ensures { λ r. ⌜ Wrote (now (buf .entry)) at (fieldsShown (readingRes reading) held (now (names .entry))
+        (now (line .entry))) (now (buf .exit)) r ⌝ }
 {
     match reading {
         Reading::Accepted(record) => put_seen(buf, at, record, held, names, line),
@@ -71,7 +74,8 @@ pub fn put_line(
     held: Held,
     names: &[u8],
 ) -> usize
-    ensures { λ r. ⌜ Wrote (now (buf .entry)) at (fieldsLine number (now (line .entry)) (readingRes reading) held (now (names .entry))) (now (buf .exit)) r ⌝ }
+    ensures { λ r. ⌜ Wrote (now (buf .entry)) at (fieldsLine number (now (line .entry)) (readingRes reading) held
+        (now (names .entry))) (now (buf .exit)) r ⌝ }
 {
     let at_fields = put_head(buf, at, number, line, reading);
     let at_end = put_fields(buf, at_fields, reading, held, names, line);

@@ -33,8 +33,20 @@ colonIn (b ∷ s) = pick (b =? code ":") 0 (suc (colonIn s))
 unfoldable pub named : List ℕ → ℕ → HRecord
 named s c =
     pick (c =? length s)
-    (record { «data_source» = sourceOf (byte 1 s); mnemonic = record { start = 2; len = 3 }; «friendly_name» = MaybePart.Missing; «data» = restFrom 5 s })
-    (record { «data_source» = sourceOf (byte 1 s); mnemonic = record { start = 2; len = 3 }; «friendly_name» = MaybePart.At (record { start = 5; len = c - 5 }); «data» = restFrom (c + 1) s })
+    (record {
+      «data_source» = sourceOf (byte 1 s);
+      mnemonic = record { start = 2; len = 3 };
+      «friendly_name» =
+          MaybePart.Missing;
+      «data» = restFrom 5 s;
+    })
+    (record {
+      «data_source» = sourceOf (byte 1 s);
+      mnemonic = record { start = 2; len = 3 };
+      «friendly_name» =
+          MaybePart.At (record { start = 5; len = c - 5 });
+      «data» = restFrom (c + 1) s;
+    })
 
 -- Under 6 bytes 1; a first byte other than H 1; 0-5 ASCII (2); source, mnemonic 2-5, name and data.
 unfoldable pub readH : List ℕ → Res HRecord

@@ -5,7 +5,8 @@ ghost use lib.ListN.{length, drop};
 ghost use Rattle.part.specs.Part.{findPart, findMaybe, partBytes, maybeBytes, shown, Shows};
 ghost use Rattle.put.specs.Put.{Wrote};
 ghost use Rattle.print.specs.Print.{Prints};
-ghost use Rattle.h_record.specs.HRecord.{sourceByte, sourceOf, colonIn, readH, charText, nameText, dataText, hBody, hText, hRes};
+ghost use Rattle.h_record.specs.HRecord.{sourceByte, sourceOf, colonIn, readH, charText, nameText, dataText};
+ghost use Rattle.h_record.specs.HRecord.{hBody, hText, hRes};
 use field::is_ascii;
 use part::Found;
 use part::MaybePart;
@@ -86,7 +87,8 @@ fn put_char(buf: &mut [u8], at: usize, b: u8) -> usize
 
 // A name with its colon; nothing where there is no name.
 fn put_name(buf: &mut [u8], at: usize, name: MaybePart, line: &[u8]) -> usize
-    ensures { λ r. ⌜ Wrote (now (buf .entry)) at (nameText name (maybeBytes name (now (line .entry)))) (now (buf .exit)) r ⌝ }
+    ensures { λ r. ⌜ Wrote (now (buf .entry)) at (nameText name (maybeBytes name (now (line .entry)))) (now (buf .exit))
+        r ⌝ }
 {
     match name {
         MaybePart::Missing => at,
@@ -156,7 +158,9 @@ impl HRecord {
 
     // The name with its colon, and the data.
     fn put_data(self, buf: &mut [u8], at: usize, line: &[u8]) -> usize
-        ensures { λ r. ⌜ Wrote (now (buf .entry)) at (dataText self (maybeBytes (self .«friendly_name») (now (line .entry))) (partBytes (self .«data») (now (line .entry)))) (now (buf .exit)) r ⌝ }
+        ensures { λ r. ⌜ Wrote (now (buf .entry))
+            at (dataText self (maybeBytes (self .«friendly_name») (now (line .entry)))
+            (partBytes (self .«data») (now (line .entry)))) (now (buf .exit)) r ⌝ }
     {
         let name = self.friendly_name;
         let data = self.data;
@@ -167,7 +171,9 @@ impl HRecord {
     // The text as a piece of a larger one, from a place on: bytes that are too short cut it, and what lies outside the
     // line is left out. `print` is the printer.
     pub fn put_piece(self, buf: &mut [u8], at: usize, line: &[u8]) -> usize
-        ensures { λ r. ⌜ Wrote (now (buf .entry)) at (hBody self (partBytes (self .mnemonic) (now (line .entry))) (maybeBytes (self .«friendly_name») (now (line .entry))) (partBytes (self .«data») (now (line .entry)))) (now (buf .exit)) r ⌝ }
+        ensures { λ r. ⌜ Wrote (now (buf .entry)) at (hBody self (partBytes (self .mnemonic) (now (line .entry)))
+            (maybeBytes (self .«friendly_name») (now (line .entry))) (partBytes (self .«data») (now (line .entry))))
+            (now (buf .exit)) r ⌝ }
     {
         let mnemonic = self.mnemonic;
         let source = self.data_source;

@@ -16,7 +16,8 @@ use Rattle.held.specs.declared.Held.{Held}
 module _ (t : Table) (name : Mnemonic) (i : ℕ) (inside : t .count ≤ length (t .defs)) where
   -- the definition at i where it has the name, and else what is left after it
   pub first-or-later : i < t .count
-      → pick (sameName (getD (t .defs) i empty .mnemonic) name) (ok (getD (t .defs) i empty)) (firstNamed name (drop (i + 1) (defsOf t))) ≡ firstNamed name (drop i (defsOf t))
+      → pick (sameName (getD (t .defs) i empty .mnemonic) name) (ok (getD (t .defs) i empty))
+      (firstNamed name (drop (i + 1) (defsOf t))) ≡ firstNamed name (drop i (defsOf t))
   unfolding firstNamed defsOf
   first-or-later more =
       let k : i < length (defsOf t) = rw (length-take-le (t .count) (t .defs) inside) more in
@@ -32,7 +33,8 @@ module _ (t : Table) (name : Mnemonic) (i : ℕ) (inside : t .count ≤ length (
 -- ---- no table
 
 -- with no table in force every lookup is 8
-pub look-none : (base : ℕ) (rest : Part) (h : Held) (name : Mnemonic) (s : List ℕ) → isSet (h .slot) ≡ false → lookUp base rest h name s ≡ no NoDefinition
+pub look-none : (base : ℕ) (rest : Part) (h : Held) (name : Mnemonic) (s : List ℕ) → isSet (h .slot) ≡ false
+    → lookUp base rest h name s ≡ no NoDefinition
 unfolding lookUp define
 look-none base rest h name s none = sym (off _ (stop _ none))
 

@@ -25,13 +25,15 @@ use Rattle.listing_text.specs.declared.trailer.Trailer.{Trailer}
 -- The lines before the place were counted and written.
 pub record Telling (log b₀ : List ℕ) (at₀ : ℕ) (b : List ℕ) (t : Trailer) (end place : ℕ) : Type 0 where
   pub held : Held
-  pub reached : Reached reader countStep (fresh reader nothing) log place (record { number = t .lines; place = place; held = held; made = t })
+  pub reached : Reached reader countStep (fresh reader nothing) log place
+      (record { number = t .lines; place = place; held = held; made = t })
   pub wrote : Wrote b₀ at₀ (texts lineOf (readOn reader (fresh reader nothing) (take place log))) b end
   pub short : length log ≤ largest
   pub lines : t .lines ≤ place
   pub refused : t .refused ≤ place
 
-pub at-start : (log b : List ℕ) (at : ℕ) → length log ≤ largest → length b < largest → at ≤ largest → Telling log b at b nothing at 0
+pub at-start : (log b : List ℕ) (at : ℕ) → length log ≤ largest → length b < largest → at ≤ largest
+    → Telling log b at b nothing at 0
 unfolding nothing
 at-start log b at short h k = record {
   short = short;
@@ -65,7 +67,8 @@ module _ {log b₀ b : List ℕ} {at₀ end place : ℕ} {t : Trailer} (f : Tell
   -- a line that was counted and then written
   pub line : {g : Got} {l b′ : List ℕ} {to : ℕ} {t′ : Trailer} → place < length log → g ≡ gotAt place log →
       l ≡ partBytes (g .line) log →
-      t′ ≡ tallied t place l (readingRes (g .reading)) → Wrote b end (listingLine (t′ .lines) l (readingRes (g .reading))) b′ to →
+      t′ ≡ tallied t place l (readingRes (g .reading)) → Wrote b end
+      (listingLine (t′ .lines) l (readingRes (g .reading))) b′ to →
       Telling log b₀ at₀ b′ t′ to (g .next)
   unfolding countStep counted lineOf nothing
   line {g} i e v k w =

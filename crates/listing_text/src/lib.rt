@@ -32,7 +32,8 @@ fn letter_of(line: &[u8]) -> u8
 
 // Letter and answer, each behind a space.
 fn put_answer(buf: &mut [u8], at: usize, line: &[u8], reading: Reading) -> usize
-    ensures { λ r. ⌜ Wrote (now (buf .entry)) at (answerText (now (line .entry)) (readingRes reading)) (now (buf .exit)) r ⌝ }
+    ensures { λ r. ⌜ Wrote (now (buf .entry)) at (answerText (now (line .entry)) (readingRes reading)) (now (buf .exit))
+        r ⌝ }
 {
     let at_letter = put_byte(buf, at, b' ');
     let at_space = put_byte(buf, at_letter, letter_of(line));
@@ -42,7 +43,8 @@ fn put_answer(buf: &mut [u8], at: usize, line: &[u8], reading: Reading) -> usize
 
 // Number, letter and answer.
 pub fn put_head(buf: &mut [u8], at: usize, number: u64, line: &[u8], reading: Reading) -> usize
-    ensures { λ r. ⌜ Wrote (now (buf .entry)) at (headText number (now (line .entry)) (readingRes reading)) (now (buf .exit)) r ⌝ }
+    ensures { λ r. ⌜ Wrote (now (buf .entry)) at (headText number (now (line .entry)) (readingRes reading))
+        (now (buf .exit)) r ⌝ }
 {
     let at_answer = put_nat(buf, at, number, 1);
     put_answer(buf, at_answer, line, reading)
@@ -72,7 +74,8 @@ fn put_heights(buf: &mut [u8], at: usize, fix: MaybeFix) -> usize
 
 // A line of the listing, closed by LF.
 pub fn put_line(buf: &mut [u8], at: usize, number: u64, line: &[u8], reading: Reading) -> usize
-    ensures { λ r. ⌜ Wrote (now (buf .entry)) at (listingLine number (now (line .entry)) (readingRes reading)) (now (buf .exit)) r ⌝ }
+    ensures { λ r. ⌜ Wrote (now (buf .entry)) at (listingLine number (now (line .entry)) (readingRes reading))
+        (now (buf .exit)) r ⌝ }
 {
     let at_heights = put_head(buf, at, number, line, reading);
     let at_end = put_heights(buf, at_heights, reading.fix());

@@ -108,7 +108,8 @@ module _ {A H T : Type 0} (R : Reader A H) (step : T → LineRead A H → T) whe
   all-texts f c [] h = sym (no-text R f c)
   all-texts f c (p ∷ []) h = rw (append-nil, append-nil)
   all-texts f c (p ∷ q ∷ ps) h =
-      rw (all-texts f (fed R step c p) (q ∷ ps) (h .1), read-append c p (joined (q ∷ ps)) (h .0)) (sym (texts-append f _ _))
+      rw (all-texts f (fed R step c p) (q ∷ ps) (h .1), read-append c p (joined (q ∷ ps)) (h .0))
+      (sym (texts-append f _ _))
 
   pub in-pieces : InPieces R step
   in-pieces = record {

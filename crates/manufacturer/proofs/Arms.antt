@@ -38,7 +38,8 @@ Rest x key A [] = A
 Rest x key A (m ∷ ms) = Rest x key (Past x A (key m)) ms
 
 -- no maker passes a test that tells its key to be x
-module _ {x : ℕ} {key : Manufacturer → Option ℕ} {test : Manufacturer → Bool} (tells : (m : Manufacturer) → test m ≡ true → key m ≡ some x) (other : Manufacturer) where
+module _ {x : ℕ} {key : Manufacturer → Option ℕ} {test : Manufacturer → Bool}
+    (tells : (m : Manufacturer) → test m ≡ true → key m ≡ some x) (other : Manufacturer) where
   past-arm : {A : Type 0} (k : Option ℕ) → Past x A k → A
   past-arm none a = a
   past-arm (some k) a = a .0
@@ -54,7 +55,8 @@ module _ {x : ℕ} {key : Manufacturer → Option ℕ} {test : Manufacturer → 
   arms-unread : (A : Type 0) (ms : List Manufacturer) → Rest x key A ms → other ≡ firstOf test other ms
   unfolding firstOf
   arms-unread A [] r = refl
-  arms-unread A (m ∷ ms) r = second m (arm-fails A (key m) (test m) (tells m) (past-arms ms r)) (arms-unread (Past x A (key m)) ms r)
+  arms-unread A (m ∷ ms) r = second m (arm-fails A (key m) (test m) (tells m) (past-arms ms r))
+      (arms-unread (Past x A (key m)) ms r)
 
 abbrev letter-key : MaybeLetter → Option ℕ
 letter-key MaybeLetter.Missing = none
@@ -64,10 +66,12 @@ abbrev triple-key : MaybeTriple → Option ℕ
 triple-key MaybeTriple.Missing = none
 triple-key (MaybeTriple.Triple u) = some (tripleNumber u)
 
-pub letter-unknown : {l : ℕ} → Rest l (λ m. letter-key (letterOf m)) Unit known → Manufacturer.UnknownSingle l ≡ letterMaker l
+pub letter-unknown : {l : ℕ} → Rest l (λ m. letter-key (letterOf m)) Unit known → Manufacturer.UnknownSingle l
+    ≡ letterMaker l
 unfolding letterMaker
 letter-unknown r = arms-unread (λ m h. ap letter-key (is-letter (letterOf m) h)) _ Unit known r
 
-pub triple-unknown : {n : ℕ} {t : Mnemonic} → n ≡ tripleNumber t → Rest n (λ m. triple-key (tripleOf m)) Unit known → Manufacturer.UnknownTriple t ≡ tripleMaker t
+pub triple-unknown : {n : ℕ} {t : Mnemonic} → n ≡ tripleNumber t → Rest n (λ m. triple-key (tripleOf m)) Unit known
+    → Manufacturer.UnknownTriple t ≡ tripleMaker t
 unfolding tripleMaker
 triple-unknown e r = arms-unread (λ m h. ap triple-key (is-triple (tripleOf m) h) ∙ ap some (sym e)) _ Unit known r

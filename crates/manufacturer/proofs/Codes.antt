@@ -25,7 +25,8 @@ is-triple {t} (MaybeTriple.Triple u) h =
     ap MaybeTriple.Triple e
 
 -- what holds of the other, and of whoever passes the test, holds of the maker found
-module _ (P : Manufacturer → Type 0) {test : Manufacturer → Bool} {other : Manufacturer} (else : P other) (passes : (m : Manufacturer) → test m ≡ true → P m) where
+module _ (P : Manufacturer → Type 0) {test : Manufacturer → Bool} {other : Manufacturer} (else : P other)
+    (passes : (m : Manufacturer) → test m ≡ true → P m) where
   picked-has : (b : Bool) {m n : Manufacturer} → (b ≡ true → P m) → P n → P (pick b m n)
   unfolding pick
   picked-has true p q = p refl
@@ -46,7 +47,8 @@ triple-read t = firstOf-has (λ m. tripleOf m ≡ MaybeTriple.Triple t) refl (λ
 
 -- ---- a maker's code is read as that maker
 
--- An unknown maker is the exception, since it may carry a known code: `UnknownSingle` with C has a letter that is read as Cambridge.
+-- An unknown maker is the exception, since it may carry a known code: `UnknownSingle` with C has a letter that is read
+-- as Cambridge.
 abbrev ByLetter : Manufacturer → MaybeLetter → Type 0
 ByLetter m MaybeLetter.Missing = Unit
 ByLetter m (MaybeLetter.Letter l) = (letterMaker l ≡ m) ⊎ (m ≡ Manufacturer.UnknownSingle l)
@@ -83,8 +85,10 @@ codes Manufacturer.Zander = (inl refl, inl refl)
 codes (Manufacturer.UnknownSingle l) = (inr refl, tt)
 codes (Manufacturer.UnknownTriple t) = (tt, inr refl)
 
-pub read-letter : (m : Manufacturer) {l : ℕ} → letterOf m ≡ MaybeLetter.Letter l → (letterMaker l ≡ m) ⊎ (m ≡ Manufacturer.UnknownSingle l)
+pub read-letter : (m : Manufacturer) {l : ℕ} → letterOf m ≡ MaybeLetter.Letter l → (letterMaker l ≡ m) ⊎
+    (m ≡ Manufacturer.UnknownSingle l)
 read-letter m e = subst (λ (x : MaybeLetter). ByLetter m x) e (codes m .0)
 
-pub read-triple : (m : Manufacturer) {t : Mnemonic} → tripleOf m ≡ MaybeTriple.Triple t → (tripleMaker t ≡ m) ⊎ (m ≡ Manufacturer.UnknownTriple t)
+pub read-triple : (m : Manufacturer) {t : Mnemonic} → tripleOf m ≡ MaybeTriple.Triple t → (tripleMaker t ≡ m) ⊎
+    (m ≡ Manufacturer.UnknownTriple t)
 read-triple m e = subst (λ (x : MaybeTriple). ByTriple m x) e (codes m .1)

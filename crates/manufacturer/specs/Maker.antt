@@ -67,7 +67,8 @@ tripleOf (Manufacturer.UnknownTriple t) = MaybeTriple.Triple t
 -- The makers with codes of their own.
 unfoldable pub known : List Manufacturer
 known =
-    Manufacturer.Aircotec ∷ Manufacturer.CambridgeAeroInstruments ∷ Manufacturer.ClearNavInstruments ∷ Manufacturer.DataSwan ∷
+    Manufacturer.Aircotec ∷ Manufacturer.CambridgeAeroInstruments ∷ Manufacturer.ClearNavInstruments ∷
+    Manufacturer.DataSwan ∷
     Manufacturer.EwAvionics ∷ Manufacturer.Filser ∷ Manufacturer.Flarm ∷ Manufacturer.Flytech ∷
     Manufacturer.Garrecht ∷ Manufacturer.ImiGlidingEquipment ∷ Manufacturer.Logstream ∷ Manufacturer.LxNavigation ∷
     Manufacturer.LxNav ∷ Manufacturer.Naviter ∷ Manufacturer.NewTechnologies ∷ Manufacturer.NielsenKellerman ∷

@@ -9,10 +9,12 @@ use Rattle.print.specs.Signed.{splitOf}
 use Rattle.print.specs.declared.{number.Signed.the-variants.Plus, number.Signed.the-variants.Minus}
 
 -- the last of k + 1 digits is written, and then the first k
-pub digit-before : {b b′ : List ℕ} (i k n : ℕ) {j r : ℕ} → j ≡ place (i + k) → Wrote b j ((48 + n % 10) ∷ []) b′ r → sets b′ i (digits k (n / 10)) ≡ sets b i (digits (suc k) n)
+pub digit-before : {b b′ : List ℕ} (i k n : ℕ) {j r : ℕ} → j ≡ place (i + k) → Wrote b j ((48 + n % 10) ∷ []) b′ r
+    → sets b′ i (digits k (n / 10)) ≡ sets b i (digits (suc k) n)
 unfolding digits
 digit-before {b} i k n e w =
-    ap (λ (l : List ℕ). sets l i (digits k (n / 10))) (w .content ∙ rw e (sets-place b (i + k) ((48 + n % 10) ∷ []) (w .short)))
+    ap (λ (l : List ℕ). sets l i (digits k (n / 10)))
+    (w .content ∙ rw e (sets-place b (i + k) ((48 + n % 10) ∷ []) (w .short)))
     ∙ ap (λ (m : ℕ). sets (set b (i + m) (48 + n % 10)) i (digits k (n / 10))) (sym (length-digits k (n / 10)))
     ∙ sets-snoc b i (digits k (n / 10)) (48 + n % 10)
 

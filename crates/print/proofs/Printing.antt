@@ -14,12 +14,15 @@ unfolding answerTo leftBy bind
 refused b e = rw (sym e) (record { answer = refl; left = refl })
 
 -- the text t, tried on other bytes, ends at n: there is no room for it
-pub no-room : {e e′ b t : List ℕ} {m : Res (List ℕ)} {n : ℕ} → ok t ≡ m → Wrote e 0 t e′ n → length b < n → Prints m b b (Refused NoRoom)
+pub no-room : {e e′ b t : List ℕ} {m : Res (List ℕ)} {n : ℕ} → ok t ≡ m → Wrote e 0 t e′ n → length b < n → Prints m b b
+    (Refused NoRoom)
 unfolding answerTo leftBy bind guard pick
-no-room {b} {t} o d h = let k : length b < length t = omega (arith, d .next) in rw (sym o) (record { answer = rw (no≤ k); left = rw (no≤ k) })
+no-room {b} {t} o d h = let k : length b < length t = omega (arith, d .next) in
+    rw (sym o) (record { answer = rw (no≤ k); left = rw (no≤ k) })
 
 -- there is, and t was written from the start on
-pub written : {e e′ b b′ t : List ℕ} {m : Res (List ℕ)} {n r : ℕ} → ok t ≡ m → Wrote e 0 t e′ n → n ≤ length b → Wrote b 0 t b′ r → Prints m b b′ (Written r)
+pub written : {e e′ b b′ t : List ℕ} {m : Res (List ℕ)} {n r : ℕ} → ok t ≡ m → Wrote e 0 t e′ n → n ≤ length b
+    → Wrote b 0 t b′ r → Prints m b b′ (Written r)
 unfolding answerTo leftBy bind guard pick
 written {b} {b′} {t} {n} {r} o d h w =
     let k : length t ≤ length b = omega (arith, d .next, w .short) in

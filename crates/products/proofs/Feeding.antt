@@ -145,7 +145,8 @@ module _ {p : Product} {names : List ℕ} {c : Carried} {s b₀ : List ℕ} wher
           let made = rw v at (m ∙ tallied-is t _ _ _ (small .1) (small .2)) in
           let q : placed c (g .next) + at ≡ placed c at + g .next = omega arith in
           let held = k ∙ ap (reader .after (placed c at) h) v in
-          let long : to ≡ end + length text = omega (arith, wrote-text .next, wrote-text .short, wrote-length wrote-text) in
+          let long : to ≡ end + length text =
+          omega (arith, wrote-text .next, wrote-text .short, wrote-length wrote-text) in
           let fits : to ≤ length b₀ = omega (arith, wrote-length wrote-text, wrote-length (f .wrote)) in
           let answer = answer-of at s e in
           record {

@@ -18,7 +18,8 @@ joined-byte a s h = rw (add-one a) (sym (drop-cons s a 0 h))
 
 -- the last column, and the last columns
 pub last-byte : (a : ℕ) (s : List ℕ) → length s ≡ a + 1 → byte a s ∷ [] ≡ drop a s
-last-byte a s l = let e : drop (a + 1) s ≡ [] = drop-of-length-le s {i = a + 1} (omega arith) in rw e at (joined-byte a s (omega arith))
+last-byte a s l = let e : drop (a + 1) s ≡ [] = drop-of-length-le s {i = a + 1} (omega arith) in
+    rw e at (joined-byte a s (omega arith))
 
 pub to-end : (a b : ℕ) (s : List ℕ) → length s ≡ b → cut a b s ≡ drop a s
 unfolding cut

@@ -15,7 +15,8 @@ use Rattle.promises.proofs.Numbers.{nat-copy}
 
 sign-same : (x y : Compass) (l : ℕ) → Finds (signOf x y l) (λ c. compassLetter c ≡ l)
 unfolding signOf
-sign-same x y l = finds-pick (λ e. finds-ok (sym (is= e))) (λ _. finds-pick (λ e. finds-ok (sym (is= e))) (λ _. finds-no))
+sign-same x y l = finds-pick (λ e. finds-ok (sym (is= e)))
+    (λ _. finds-pick (λ e. finds-ok (sym (is= e))) (λ _. finds-no))
 
 -- w columns from the start on, and then those behind them
 copy-front : (s : List ℕ) (w : ℕ) {o p : Bool} {t u : List ℕ} → Copy o (cut 0 w s) t → Copy p (drop w s) u →
@@ -23,7 +24,8 @@ copy-front : (s : List ℕ) (w : ℕ) {o p : Bool} {t u : List ℕ} → Copy o (
 copy-front s w c d = let j : cut 0 w s ++ drop w s ≡ s = rw zero-add at (cut-joined 0 w s) in rw j at (copy-append c d)
 
 coord-makes : (d limit g t : ℕ) (c : Compass) →
-    Finds (coordOf limit g t c) (λ v. coordText d v ≡ coordText d (record { degrees = g; «minute_thousandths» = t; sign = c }))
+    Finds (coordOf limit g t c)
+    (λ v. coordText d v ≡ coordText d (record { degrees = g; «minute_thousandths» = t; sign = c }))
 unfolding coordOf
 coord-makes d limit g t c = finds-guard _ (λ _. finds-ok refl)
 

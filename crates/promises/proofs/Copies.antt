@@ -42,16 +42,19 @@ module _ (s : List ℕ) (a : ℕ) {o : Bool} {t : List ℕ} where
 
   -- w columns, and the rest as it stands
   pub copy-rest : (w : ℕ) → Copy o (cut a (a + w) s) t → Copy o (drop a s) (t ++ drop (a + w) s)
-  copy-rest w c = let d = copy-columns w c (copy-itself (drop (a + w) s)) in record { long = d .long; same = λ e. d .same (neither-odd e refl); only = λ e. neither (d .only e) .0 }
+  copy-rest w c = let d = copy-columns w c (copy-itself (drop (a + w) s)) in
+      record { long = d .long; same = λ e. d .same (neither-odd e refl); only = λ e. neither (d .only e) .0 }
 
   -- the last columns
   pub copy-last : (b : ℕ) → length s ≡ b → Copy o (cut a b s) t → Copy o (drop a s) t
   copy-last b l c = rw to-end at c
 
   -- a letter that stays, and then the columns behind it
-  pub copy-letter : (l : ℕ) → a < length s → l ≡ byte a s → Copy o (drop (a + 1) s) t → Copy o (drop a s) ((l ∷ []) ++ t)
+  pub copy-letter : (l : ℕ) → a < length s → l ≡ byte a s → Copy o (drop (a + 1) s) t → Copy o (drop a s)
+      ((l ∷ []) ++ t)
   unfolding _∨?_ pick
-  copy-letter l h e c = let j : (l ∷ []) ++ drop (a + 1) s ≡ drop a s = rw e (joined-byte a s h) in rw j at (copy-append (copy-itself (l ∷ [])) c)
+  copy-letter l h e c = let j : (l ∷ []) ++ drop (a + 1) s ≡ drop a s = rw e (joined-byte a s h) in
+      rw j at (copy-append (copy-itself (l ∷ [])) c)
 
 -- whatever is found has the text u, and u is printed for s
 pub finds-copy : {A : Type 0} {m : Res A} (text : A → List ℕ) {o : Bool} {s u : List ℕ} → Finds m (λ v. text v ≡ u) →

@@ -17,7 +17,8 @@ unfolding validOf
 fix-same l = finds-pick (λ e. finds-ok (sym (is= e))) (λ _. finds-pick (λ e. finds-ok (sym (is= e))) (λ _. finds-no))
 
 heights-copy : (s : List ℕ) → 35 ≤ length s
-    → Finds (readHeights s) (λ h. Copy (signedOdd (cut 25 30 s) ∨? signedOdd (cut 30 35 s)) (drop 25 s) (signed 5 (h .pressure .0) ++ (signed 5 (h .gps .0) ++ drop 35 s)))
+    → Finds (readHeights s) (λ h. Copy (signedOdd (cut 25 30 s) ∨? signedOdd (cut 30 35 s)) (drop 25 s)
+    (signed 5 (h .pressure .0) ++ (signed 5 (h .gps .0) ++ drop 35 s)))
 unfolding readHeights
 heights-copy s l =
     finds-bind (int-copy 25 5 32767 s (omega arith)) (λ p cp.
@@ -34,4 +35,6 @@ b-again s b =
     finds-bind (fix-same (byte 24 s)) (λ fix ef.
     finds-bind (heights-copy s l) (λ h ch.
     finds-ok (printed-again (on _ (rest-text 35 s l) refl)
-    (copy-letter s 0 66 (omega arith) (sym b) (copy-columns s 1 6 ct (copy-columns s 7 17 cp (copy-letter s 24 (validLetter fix) (omega arith) ef ch)))))))))))
+    (copy-letter s 0 66 (omega arith) (sym b)
+    (copy-columns s 1 6 ct
+    (copy-columns s 7 17 cp (copy-letter s 24 (validLetter fix) (omega arith) ef ch)))))))))))

@@ -50,18 +50,23 @@ module _ (s : List ℕ) (b : byte 0 s ≡ 72) (l : 6 ≤ length s) (ascii : isAs
   -- the letter, source and mnemonic, and what stands behind them
   header-head : (u : List ℕ) → u ≡ drop 5 s →
       ok s ≡ ok ((72 ∷ []) ++ (charText (sourceByte (sourceOf (byte 1 s))) ++ (cut 2 5 s ++ u)))
-  header-head u e = rw (e, source-text, cut-joined 2 3 s, joined-byte 1 s (omega arith), ← b) (ap ok (sym (joined-byte 0 s (omega arith))))
+  header-head u e = rw (e, source-text, cut-joined 2 3 s, joined-byte 1 s (omega arith), ← b)
+      (ap ok (sym (joined-byte 0 s (omega arith))))
 
   -- a colon n bytes behind column 5 parts name and data; there is none where that is the line's end
   named-same : (n : ℕ) → 5 + n ≤ length s → (5 + n < length s → 58 ≡ byte (5 + n) s) → ok s ≡ hText (named s (5 + n)) s
   unfolding named hText hBody dataText nameText maybeText findMaybe partText pick _=?_
   named-same n i colon =
       by-test (5 + n =? length s)
-      (λ e. rw e (on _ (part-text 2 s 3 (omega arith)) (on _ (missing-text s) (on _ (rest-text 5 s (omega arith)) (header-head (drop 5 s) refl)))))
+      (λ e. rw e (on _ (part-text 2 s 3 (omega arith))
+      (on _ (missing-text s) (on _ (rest-text 5 s (omega arith)) (header-head (drop 5 s) refl)))))
       (λ e.
       let h : 5 + n < length s = omega (arith, eqb-false) in
-      let tail : (cut 5 (5 + n) s ++ (58 ∷ [])) ++ drop (5 + n + 1) s ≡ drop 5 s = rw (append-assoc, colon h, joined-byte (5 + n) s h) (cut-joined 5 n s) in
-      rw (e, add-sub-cancel-left 5 n) (on _ (part-text 2 s 3 (omega arith)) (on _ (part-text 5 s n i) (on _ (rest-text (5 + n + 1) s (omega arith)) (header-head _ tail)))))
+      let tail : (cut 5 (5 + n) s ++ (58 ∷ [])) ++ drop (5 + n + 1) s ≡ drop 5 s =
+      rw (append-assoc, colon h, joined-byte (5 + n) s h) (cut-joined 5 n s) in
+      rw (e, add-sub-cancel-left 5 n)
+      (on _ (part-text 2 s 3 (omega arith))
+      (on _ (part-text 5 s n i) (on _ (rest-text (5 + n + 1) s (omega arith)) (header-head _ tail)))))
 
 pub h-again : (s : List ℕ) → byte 0 s ≡ 72 → Finds (readH s) (λ r. Again false s (hText r s))
 unfolding readH asciiIn

@@ -16,7 +16,8 @@ use Rattle.promises.proofs.Copies.{Copy, neither-odd}
 -- ---- a printed number is not odd
 
 not-zeros : (w n : ℕ) → zeros (padded w (suc n)) ≡ false
-not-zeros w n = by-test (zeros (padded w (suc n))) (λ e. absurd (omega (arith, zeros-value (padded w (suc n)) e, value-padded w (suc n)))) (λ e. e)
+not-zeros w n = by-test (zeros (padded w (suc n)))
+    (λ e. absurd (omega (arith, zeros-value (padded w (suc n)) e, value-padded w (suc n)))) (λ e. e)
 
 plain-padded : (w n : ℕ) → plus (padded w n) ≡ false
 unfolding plus

@@ -13,7 +13,8 @@ use Rattle.promises.proofs.Parts.{part-text, name-text, Again, printed-
 
 module _ (s : List ℕ) (a : byte 0 s ≡ 65) where
   -- the maker's triple, and all from column i on
-  maker-made : (maker : Manufacturer) (i w : ℕ) → i + w ≤ length s → ok ((65 ∷ []) ++ (tripleText (tripleOf maker) ++ drop i s)) ≡ aText (aOf s maker i w) s
+  maker-made : (maker : Manufacturer) (i w : ℕ) → i + w ≤ length s
+      → ok ((65 ∷ []) ++ (tripleText (tripleOf maker) ++ drop i s)) ≡ aText (aOf s maker i w) s
   unfolding aText aOf aNew aBody
   maker-made maker i w l = on _ (part-text i s w l) (on _ (name-text (i + w) s l) (rw (cut-joined i w s)))
 
@@ -21,7 +22,14 @@ module _ (s : List ℕ) (a : byte 0 s ≡ 65) where
   unfolding tripleText mnemonicText
   triple-same w l =
       let whole : (65 ∷ []) ++ (tripleText (tripleOf (tripleMaker (triple s))) ++ drop 4 s) ≡ s =
-      rw (triple-read (triple s), joined-byte 3 s (omega arith), joined-byte 2 s (omega arith), joined-byte 1 s (omega arith), ← a) (joined-byte 0 s (omega arith)) in
+      rw (
+        triple-read (triple s),
+        joined-byte 3 s (omega arith),
+        joined-byte 2 s (omega arith),
+        joined-byte 1 s
+            (omega arith),
+        ← a,
+      ) (joined-byte 0 s (omega arith)) in
       rw whole at (maker-made (tripleMaker (triple s)) 4 w l)
 
   -- no maker prints one byte, so the letter form never comes back
@@ -30,14 +38,16 @@ module _ (s : List ℕ) (a : byte 0 s ≡ 65) where
   one-byte Missing h = omega arith
   one-byte (Triple t) h = omega arith
 
-  letter-again : 7 ≤ length s → letterForm s ≡ true → Again (letterForm s) s (aText (aOf s (letterMaker (byte 1 s)) 2 5) s)
+  letter-again : 7 ≤ length s → letterForm s ≡ true → Again (letterForm s) s
+      (aText (aOf s (letterMaker (byte 1 s)) 2 5) s)
   letter-again l e =
       let x = tripleOf (letterMaker (byte 1 s)) in
       record {
         text = (65 ∷ []) ++ (tripleText x ++ drop 2 s);
         prints = maker-made (letterMaker (byte 1 s)) 2 5 l;
         same = λ f. never e f;
-        only = λ q. absurd (one-byte x (omega (arith, length-append (tripleText x) (drop 2 s), length-drop 2 s, ap length q)));
+        only = λ q. absurd
+            (one-byte x (omega (arith, length-append (tripleText x) (drop 2 s), length-drop 2 s, ap length q)));
       }
 
   pub a-again : Finds (readA s) (λ r. Again (letterForm s) s (aText r s))

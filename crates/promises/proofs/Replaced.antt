@@ -21,8 +21,11 @@ values-stay : (n₁ n₂ p₁ p₂ : ℕ) (same : Bool) (xs ys : List Line-read)
 values-stay n₁ n₂ p₁ p₂ same [] [] m k = tt
 values-stay n₁ n₂ p₁ p₂ same [] (y ∷ ys) m k = m
 values-stay n₁ n₂ p₁ p₂ same (x ∷ xs) [] m k = m
-values-stay n₁ n₂ p₁ p₂ same (x ∷ xs) (y ∷ ys) m k =
-    ((λ e fix name a. rw (k .0 e, m .0 .line)), values-stay n₁ n₂ p₁ p₂ (same ∨? begins 73 (x .line)) xs ys (m .1) (k .1))
+values-stay n₁ n₂ p₁ p₂ same (x ∷ xs) (y ∷ ys) m k = (
+  (λ e fix name a. rw (k .0 e, m .0 .line)),
+  values-stay n₁ n₂ p₁ p₂ (same ∨? begins 73 (x .line)) xs ys (m .1)
+      (k .1),
+)
 
 -- a line that begins with I is accepted where its table is
 i-accepted : (s : List ℕ) (ds : List Extension) → begins 73 s ≡ true → readTable s ≡ ok ds → readLine s ≡ ok Record.I
@@ -60,5 +63,7 @@ replaced pre old new post p o n =
           values-stay (length (chunks new)) (length (chunks old)) (length new) (length old)
           (not (some reader letterI (chunks new) ∨? some reader letterI (chunks old)))
           (afterRun pre new post) (afterRun pre old post) (d .later) (d .tables letterI);
-      refused = λ a b c. no-values (readings reader (pre ++ (new ++ post))) (d .removed letterI (λ h. isSet (h .slot)) fresh-none (no-table (chunks pre) a) (no-table (chunks new) b) (no-table (chunks post) c));
+      refused = λ a b c. no-values (readings reader (pre ++ (new ++ post)))
+          (d .removed letterI (λ h. isSet (h .slot)) fresh-none (no-table (chunks pre) a) (no-table (chunks new) b)
+          (no-table (chunks post) c));
     }

@@ -21,7 +21,8 @@ definition-copy : (s : List ℕ) → Finds (readExtension s) (λ e. Copy (defini
 unfolding readExtension readDefinition definitionPlus extensionText mnemonicText
 definition-copy s =
     finds-guard _ (λ long. let l : length s ≡ 7 = is= long in
-    let name : (byte 4 s ∷ []) ++ ((byte 5 s ∷ []) ++ (byte 6 s ∷ [])) ≡ drop 4 s = rw (last-byte 6 s l, joined-byte 5 s (omega arith)) (joined-byte 4 s (omega arith)) in
+    let name : (byte 4 s ∷ []) ++ ((byte 5 s ∷ []) ++ (byte 6 s ∷ [])) ≡ drop 4 s =
+    rw (last-byte 6 s l, joined-byte 5 s (omega arith)) (joined-byte 4 s (omega arith)) in
     finds-bind (nat-copy 0 2 255 s (omega arith)) (λ start cs.
     finds-bind (nat-copy 2 2 255 s (omega arith)) (λ end ce.
     finds-guard _ (λ _. finds-ok (copy-columns s 0 2 cs (rw (← name) at (copy-rest s 2 2 ce)))))))
@@ -47,7 +48,11 @@ table-text b ds h = pass _ (yes≤ h) (rw (take-at ds (replicate (99 - length ds
 count-most : (s : List ℕ) → 3 ≤ length s →
     Finds (columns 1 3 (readNat 255) s) (λ n. Copy (plus (cut 1 3 s)) (cut 1 3 s) (padded 2 n) × (n ≤ 99))
 unfolding columns
-count-most s l = record { found = λ n e. (nat-copy 1 2 255 s l .found n e, two-characters 255 (cut 1 3 s) (omega (arith, cut-length 1 2 s l)) (sym e)) }
+count-most s l =
+    record {
+      found = λ n e.
+          (nat-copy 1 2 255 s l .found n e, two-characters 255 (cut 1 3 s) (omega (arith, cut-length 1 2 s l)) (sym e));
+    }
 
 pub table-again : (s : List ℕ) (b : ℕ) → byte 0 s ≡ b →
     Finds (readTable s) (λ ds. Again (tableOdd s) s (tableText b (tableOf ds)))
@@ -59,4 +64,5 @@ table-again s b h =
     finds-guard _ (λ exact. let x : length s ≡ 3 + 7 * n = is= exact in
     let k : (length s - 3) / 7 ≡ n = omega arith in
     finds-rest _ s 3 (finds-map (defs-copy n (drop 3 s) (omega (arith, length-drop 3 s))) (λ ds d.
-    rw k (printed-again (table-text b ds (omega (arith, d .1, c .1))) (copy-letter s 0 b (omega arith) (sym h) (copy-columns s 1 2 (rw (← d .1) at (c .0)) (d .0)))))))))))
+    rw k (printed-again (table-text b ds (omega (arith, d .1, c .1)))
+    (copy-letter s 0 b (omega arith) (sym h) (copy-columns s 1 2 (rw (← d .1) at (c .0)) (d .0)))))))))))

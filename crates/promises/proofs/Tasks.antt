@@ -36,7 +36,9 @@ flight-copy s l =
     (λ _. finds-bind (date-copy s) (λ d c. finds-ok c))
 
 task-copy : (s : List ℕ) → 25 ≤ length s
-    → Finds (readTask s) (λ k. Copy (plus (cut 19 23 s) ∨? signedOdd (cut 23 25 s)) (drop 19 s) (padded 4 (k .id) ++ (signed 2 (k .count) ++ drop 25 s)))
+    → Finds (readTask s)
+    (λ k. Copy (plus (cut 19 23 s) ∨? signedOdd (cut 23 25 s)) (drop 19 s)
+    (padded 4 (k .id) ++ (signed 2 (k .count) ++ drop 25 s)))
 unfolding readTask
 task-copy s l =
     finds-bind (nat-copy 19 4 65535 s (omega arith)) (λ id ci.
@@ -54,7 +56,8 @@ declaration-again s b =
     finds-bind (finds-columns _ s 13 19 (flight-copy (cut 13 19 s) (cut-length 13 6 s (omega arith)))) (λ flight cf.
     finds-bind (task-copy s l) (λ task ck.
     finds-ok (printed-again (on _ (name-text 25 s l) refl)
-    (copy-letter s 0 67 (omega arith) (sym b) (copy-columns s 1 6 cd (copy-columns s 7 6 ct (copy-columns s 13 6 cf ck))))))))))))
+    (copy-letter s 0 67 (omega arith) (sym b)
+    (copy-columns s 1 6 cd (copy-columns s 7 6 ct (copy-columns s 13 6 cf ck))))))))))))
 
 -- ---- turnpoints
 
@@ -65,4 +68,5 @@ turnpoint-again s b =
     finds-guard _ (λ long. let l : 18 ≤ length s = is≤ long in
     finds-guard _ (λ _. finds-guard _ (λ _.
     finds-bind (finds-columns _ s 1 18 (position-copy (cut 1 18 s))) (λ pos cp.
-    finds-ok (printed-again (on _ (name-text 18 s l) refl) (copy-letter s 0 67 (omega arith) (sym b) (copy-rest s 1 17 cp)))))))
+    finds-ok (printed-again (on _ (name-text 18 s l) refl)
+    (copy-letter s 0 67 (omega arith) (sym b) (copy-rest s 1 17 cp)))))))

@@ -11,7 +11,8 @@ use Rattle.promises.proofs.Copies.{Copy, copy-columns, copy-last, finds
 use Rattle.promises.proofs.Numbers.{nat-copy}
 
 -- three numbers, and the text of what is made of them
-three-copy : {A : Type 0} (make : ℕ → ℕ → ℕ → Res A) (text : A → List ℕ) → ((a b c : ℕ) → Finds (make a b c) (λ v. text v ≡ threeText a b c))
+three-copy : {A : Type 0} (make : ℕ → ℕ → ℕ → Res A) (text : A → List ℕ)
+    → ((a b c : ℕ) → Finds (make a b c) (λ v. text v ≡ threeText a b c))
     → (s : List ℕ) → length s ≡ 6 → Finds (readThree make s) (λ v. Copy (threePlus s) s (text v))
 unfolding readThree threePlus threeText
 three-copy make text makes s l =

@@ -1,4 +1,5 @@
--- A line read and printed comes back, exactly where it is not odd: said through the contracts, so of what the programs do.
+-- A line read and printed comes back, exactly where it is not odd: said through the contracts, so of what the programs
+-- do.
 use Rattle.text.specs.Prelude.{ℕ, _≤_, _<_, code, _≡_, true, false, List, _++_, length, drop, Res, ok, no, byte}
 use Rattle.text.specs.declared.refusal.Refusal.the-variants.{NoRoom}
 use Rattle.print.specs.Print.{printedRes, Prints}
@@ -15,11 +16,14 @@ pub record Parsed (s : List ℕ) (r : Record) (t : TableRead) : Type 0 where
   pub answer : readingRes (Accepted r) ≡ readLine s
   pub table : t ≡ tableRead (readTable s)
 
--- The text m is the line s itself: into bytes that are long enough a printer writes the line; else it answers 10 and changes nothing.
+-- The text m is the line s itself: into bytes that are long enough a printer writes the line; else it answers 10 and
+-- changes nothing.
 pub record Back (s : List ℕ) (m : Res (List ℕ)) : Type 0 where
   pub text : m ≡ ok s
-  pub room : (b b′ : List ℕ) (p : Printed) → Prints m b b′ p → length s ≤ length b → (printedRes p ≡ ok (length s)) × (b′ ≡ s ++ drop (length s) b)
-  pub no-room : (b b′ : List ℕ) (p : Printed) → Prints m b b′ p → length b < length s → (printedRes p ≡ no NoRoom) × (b′ ≡ b)
+  pub room : (b b′ : List ℕ) (p : Printed) → Prints m b b′ p → length s ≤ length b → (printedRes p ≡ ok (length s))
+      × (b′ ≡ s ++ drop (length s) b)
+  pub no-room : (b b′ : List ℕ) (p : Printed) → Prints m b b′ p → length b < length s → (printedRes p ≡ no NoRoom)
+      × (b′ ≡ b)
 
 -- The record of an accepted line s has the text m.
 pub record Reprints (s : List ℕ) (m : Res (List ℕ)) : Type 0 where
@@ -43,10 +47,14 @@ pub record Needed : Type 0 where
   pub letter-form : reprinted (spelt "AC00069") ≡ ok (spelt "ACAM00069")
   -- A number was written with `+`: B lines,
   pub time : reprinted (spelt "B10+5304712345N01102500EA0152301561") ≡ ok (spelt "B1005304712345N01102500EA0152301561")
-  pub latitude : reprinted (spelt "B101530+712345N01102500EA0152301561") ≡ ok (spelt "B1015300712345N01102500EA0152301561")
-  pub longitude : reprinted (spelt "B1015304712345N011+2500EA0152301561") ≡ ok (spelt "B1015304712345N01102500EA0152301561")
-  pub pressure-height : reprinted (spelt "B1015304712345N01102500EA+152301561") ≡ ok (spelt "B1015304712345N01102500EA0152301561")
-  pub gps-height : reprinted (spelt "B1015304712345N01102500EA01523+1561") ≡ ok (spelt "B1015304712345N01102500EA0152301561")
+  pub latitude : reprinted (spelt "B101530+712345N01102500EA0152301561")
+      ≡ ok (spelt "B1015300712345N01102500EA0152301561")
+  pub longitude : reprinted (spelt "B1015304712345N011+2500EA0152301561")
+      ≡ ok (spelt "B1015304712345N01102500EA0152301561")
+  pub pressure-height : reprinted (spelt "B1015304712345N01102500EA+152301561")
+      ≡ ok (spelt "B1015304712345N01102500EA0152301561")
+  pub gps-height : reprinted (spelt "B1015304712345N01102500EA01523+1561")
+      ≡ ok (spelt "B1015304712345N01102500EA0152301561")
   -- C lines,
   pub turnpoint : reprinted (spelt "C47+2345N01102500E") ≡ ok (spelt "C4702345N01102500E")
   pub date : reprinted (spelt "C+30718092044000000000204") ≡ ok (spelt "C030718092044000000000204")
@@ -59,7 +67,9 @@ pub record Needed : Type 0 where
   pub start : reprinted (spelt "I01+638FXA") ≡ ok (spelt "I010638FXA")
   pub end : reprinted (spelt "J0108+9HDT") ≡ ok (spelt "J010809HDT")
   -- A height was `-0000`.
-  pub pressure-zero : reprinted (spelt "B1015304712345N01102500EA-000001561") ≡ ok (spelt "B1015304712345N01102500EA0000001561")
-  pub gps-zero : reprinted (spelt "B1015304712345N01102500EA01523-0000") ≡ ok (spelt "B1015304712345N01102500EA0152300000")
+  pub pressure-zero : reprinted (spelt "B1015304712345N01102500EA-000001561")
+      ≡ ok (spelt "B1015304712345N01102500EA0000001561")
+  pub gps-zero : reprinted (spelt "B1015304712345N01102500EA01523-0000")
+      ≡ ok (spelt "B1015304712345N01102500EA0152300000")
   -- A count was `-0`.
   pub count-zero : reprinted (spelt "C2307180920440000000002-0") ≡ ok (spelt "C230718092044000000000200")

@@ -54,6 +54,7 @@ pub record Determined : Type 1 where
   pub outs : {o : Out} {r₁ r₂ : ℕ} {b₁ b₂ : List ℕ} → o ≡ record { sum = r₁; bytes = b₁ } →
       o ≡ record { sum = r₂; bytes = b₂ } →
       (r₁ ≡ r₂) × (b₁ ≡ b₂)
-  pub took : {A H T : Type 0} {R : Reader A H} {step : T → LineRead A H → T} {f : LineRead A H → List ℕ} {c c₁ c₂ : Carried H T}
+  pub took : {A H T : Type 0} {R : Reader A H} {step : T → LineRead A H → T} {f : LineRead A H → List ℕ}
+      {c c₁ c₂ : Carried H T}
       {s b b₁ b₂ : List ℕ} {n₁ n₂ e₁ e₂ : ℕ} → Took R step f c s b b₁ c₁ n₁ e₁ → Took R step f c s b b₂ c₂ n₂ e₂ →
       (c₁ ≡ c₂) × (n₁ ≡ n₂) × (e₁ ≡ e₂) × (b₁ ≡ b₂)

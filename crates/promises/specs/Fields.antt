@@ -12,7 +12,8 @@ use Rattle.fields_text.specs.Line.{bookShown, printedShown, fieldsText}
 
 -- The fields of an accepted line, its verdict and its text as printed; a refused line has none.
 unfoldable pub fieldsAs : Res Record → Res (List ℕ) → Held → List ℕ → List ℕ → List ℕ
-fieldsAs (ok r) (ok printed) h names s = recordShown r (recordTable r s) h names s ++ (bookShown r ++ printedShown printed)
+fieldsAs (ok r) (ok printed) h names s = recordShown r (recordTable r s) h names s
+    ++ (bookShown r ++ printedShown printed)
 fieldsAs (ok r) (no n) h names s = []
 fieldsAs (no n) printed h names s = []
 

@@ -34,6 +34,12 @@ module _ (base : ℕ) (rest : Part) (h : Held) (name : Mnemonic) (s : List ℕ) 
   -- In every other it gives the part of the rest from start - (base + 1) up to end - base.
   abbrev pub Gives : Type 0
   Gives =
-      (e : Extension) → Defined e → rest .start + rest .len ≤ length s → base < e .«start_byte» → e .«start_byte» ≤ e .«end_byte»
+      (e : Extension) → Defined e → rest .start + rest .len ≤ length s → base < e .«start_byte»
+      → e .«start_byte» ≤ e .«end_byte»
       → e .«end_byte» - base ≤ rest .len
-      → lookUp base rest h name s ≡ ok (record { start = rest .start + (e .«start_byte» - (base + 1)); len = (e .«end_byte» - base) - (e .«start_byte» - (base + 1)) })
+      → lookUp base rest h name s
+      ≡ ok (record {
+        start = rest .start + (e .«start_byte» - (base + 1));
+        len = (e .«end_byte» - base) -
+            (e .«start_byte» - (base + 1));
+      })

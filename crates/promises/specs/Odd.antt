@@ -41,7 +41,8 @@ fixOdd s = threePlus (cut 1 7 s) ∨? positionPlus (cut 7 24 s) ∨? signedOdd (
 
 -- A declaration: the date 1-7, the time 7-13, the flight date 13-19, the task 19-23 or the count 23-25.
 unfoldable pub declarationOdd : List ℕ → Bool
-declarationOdd s = threePlus (cut 1 7 s) ∨? threePlus (cut 7 13 s) ∨? threePlus (cut 13 19 s) ∨? plus (cut 19 23 s) ∨? signedOdd (cut 23 25 s)
+declarationOdd s = threePlus (cut 1 7 s) ∨? threePlus (cut 7 13 s) ∨? threePlus (cut 13 19 s) ∨? plus (cut 19 23 s)
+    ∨? signedOdd (cut 23 25 s)
 
 -- A turnpoint: the position 1-18.
 unfoldable pub turnpointOdd : List ℕ → Bool

@@ -22,7 +22,8 @@ in-threes (a ∷ (b ∷ (c ∷ s))) = omega (arith, in-threes s)
 
 -- the i-th is the i-th three of bytes
 pub spelt : (s : List ℕ) (i : ℕ) → i < length (namesIn s)
-    → drop i (namesIn s) ≡ record { 0 = getD s (3 * i) 0; 1 = getD s (3 * i + 1) 0; 2 = getD s (3 * i + 2) 0 } ∷ drop (suc i) (namesIn s)
+    → drop i (namesIn s) ≡ record { 0 = getD s (3 * i) 0; 1 = getD s (3 * i + 1) 0; 2 = getD s (3 * i + 2) 0 } ∷ drop
+    (suc i) (namesIn s)
 unfolding namesIn
 spelt [] i h = absurd (omega arith)
 spelt (a ∷ []) i h = absurd (omega arith)
@@ -43,7 +44,8 @@ count-defs t = length-take (t .count) (t .defs)
 pub defined : (t : Table) (i : ℕ) → i < length (defsOf t) →
     drop i (defsOf t) ≡ getD (t .defs) i empty ∷ drop (suc i) (defsOf t)
 unfolding defsOf
-defined t i more = drop-cons (defsOf t) i empty more ∙ rw (getD-take (t .count) (t .defs) i empty (omega (arith, count-defs t)))
+defined t i more = drop-cons (defsOf t) i empty more
+    ∙ rw (getD-take (t .count) (t .defs) i empty (omega (arith, count-defs t)))
 
 -- ---- the names of the table in force
 

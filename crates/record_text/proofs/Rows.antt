@@ -16,7 +16,8 @@ take-next (y ∷ l) zero e = cc
 take-next (y ∷ l) (suc i) e = ap (λ t. y ∷ t) (take-next l i e)
 
 -- a turn: the first i are written, and then the next
-pub in-turn : {A : Type 0} (one : A → List ℕ) {b b′ b″ : List ℕ} {at j k : ℕ} (l : List A) (i : ℕ) {x : A} {xs : List A} →
+pub in-turn : {A : Type 0} (one : A → List ℕ) {b b′ b″ : List ℕ} {at j k : ℕ} (l : List A) (i : ℕ) {x : A} {xs : List A}
+    →
     drop i l ≡ x ∷ xs → Wrote b at (texts one (take i l)) b′ j → Wrote b′ j (one x) b″ k →
     Wrote b at (texts one (take (i + 1) l)) b″ k
 unfolding texts

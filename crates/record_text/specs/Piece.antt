@@ -56,7 +56,8 @@ flightShown (MaybeDate.On d) = dateShown d
 
 -- Degrees, thousandths and letter.
 unfoldable pub coordShown : RawCoord → List ℕ
-coordShown c = numberShown (c .degrees) ++ (numberShown (c .«minute_thousandths») ++ byteShown (compassLetter (c .sign)))
+coordShown c = numberShown (c .degrees)
+    ++ (numberShown (c .«minute_thousandths») ++ byteShown (compassLetter (c .sign)))
 
 -- Latitude's, then longitude's.
 unfoldable pub positionShown : RawPosition → List ℕ

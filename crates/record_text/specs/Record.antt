@@ -20,7 +20,9 @@ use Rattle.record_text.specs.Value.{askedFor, valueShown}
 
 -- The letter code and the triple code as the maker gives them, unique id, id extension.
 unfoldable pub aShown : ARecord → List ℕ
-aShown r = letterShown (maker.letterOf (r .manufacturer)) ++ (tripleShown (maker.tripleOf (r .manufacturer)) ++ (partShown (r .«unique_id») ++ maybeShown (r .«id_extension»)))
+aShown r = letterShown (maker.letterOf (r .manufacturer))
+    ++ (tripleShown (maker.tripleOf (r .manufacturer))
+    ++ (partShown (r .«unique_id») ++ maybeShown (r .«id_extension»)))
 
 -- A or V, pressure height, GPS height, rest.
 unfoldable pub fixShown : BRecord → List ℕ
@@ -31,11 +33,13 @@ fixShown r =
 -- Time, latitude and longitude, the fix, and the values of the names asked for.
 unfoldable pub bShown : BRecord → Held → List ℕ → List ℕ → List ℕ
 bShown r h names s =
-    timeShown (r .timestamp) ++ (positionShown (r .pos) ++ (fixShown r ++ texts (valueShown h (r .rest) s) (askedFor h names)))
+    timeShown (r .timestamp)
+    ++ (positionShown (r .pos) ++ (fixShown r ++ texts (valueShown h (r .rest) s) (askedFor h names)))
 
 -- Task, count, name.
 unfoldable pub taskShown : CRecordDeclaration → List ℕ
-taskShown r = numberShown (r .«task_id») ++ ((code " " ∷ []) ++ (signed 1 (r .«turnpoint_count») ++ maybeShown (r .«task_name»)))
+taskShown r = numberShown (r .«task_id»)
+    ++ ((code " " ∷ []) ++ (signed 1 (r .«turnpoint_count») ++ maybeShown (r .«task_name»)))
 
 -- Date, time, flight date, and these.
 unfoldable pub declarationShown : CRecordDeclaration → List ℕ
@@ -47,11 +51,13 @@ turnpointShown r = positionShown (r .position) ++ maybeShown (r .«turnpoint_nam
 
 -- The source byte, mnemonic, name, data.
 unfoldable pub hShown : HRecord → List ℕ
-hShown r = byteShown (sourceByte (r .«data_source»)) ++ (partShown (r .mnemonic) ++ (maybeShown (r .«friendly_name») ++ partShown (r .«data»)))
+hShown r = byteShown (sourceByte (r .«data_source»))
+    ++ (partShown (r .mnemonic) ++ (maybeShown (r .«friendly_name») ++ partShown (r .«data»)))
 
 -- START-ENDNAME.
 unfoldable pub definitionShown : Extension → List ℕ
-definitionShown e = numberShown (e .«start_byte») ++ ((code "-" ∷ []) ++ (padded 1 (e .«end_byte») ++ mnemonicText (e .mnemonic)))
+definitionShown e = numberShown (e .«start_byte»)
+    ++ ((code "-" ∷ []) ++ (padded 1 (e .«end_byte») ++ mnemonicText (e .mnemonic)))
 
 -- Count, then each definition.
 unfoldable pub tableShown : Table → List ℕ

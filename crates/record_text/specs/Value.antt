@@ -16,7 +16,8 @@ foundText (no n) = padded 1 (numberOf n)
 
 -- NAME=ANSWER, by lookup by name on a line with 35 fixed columns and this rest.
 unfoldable pub valueShown : Held → Part → List ℕ → Mnemonic → List ℕ
-valueShown h rest s name = (code " " ∷ []) ++ (mnemonicText name ++ ((code "=" ∷ []) ++ foundText (lookUp 35 rest h name s)))
+valueShown h rest s name =
+    (code " " ∷ []) ++ (mnemonicText name ++ ((code "=" ∷ []) ++ foundText (lookUp 35 rest h name s)))
 
 -- The names of definitions, in their order.
 unfoldable pub namesOf : List Extension → List Mnemonic

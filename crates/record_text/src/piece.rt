@@ -1,7 +1,8 @@
 // A field of each kind, in plain decimal, behind the space that parts it from the one before.
 ghost use Rattle.put.specs.Put.{Wrote};
 ghost use Rattle.record_text.specs.Piece.{numberShown, byteShown, placeText, partShown, maybeShown, twoMarked};
-ghost use Rattle.record_text.specs.Piece.{threeShown, timeShown, dateShown, flightShown, coordShown, positionShown};
+ghost use Rattle.record_text.specs.Piece.{threeShown, timeShown, dateShown, flightShown, coordShown};
+ghost use Rattle.record_text.specs.Piece.{positionShown};
 ghost use Rattle.record_text.specs.Piece.{letterShown, tripleShown};
 use c_record::MaybeDate;
 use coord::RawCoord;

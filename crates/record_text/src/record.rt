@@ -60,7 +60,8 @@ fn show_fix(buf: &mut [u8], at: usize, b: BRecord) -> usize
 
 // Time, position, the fix, and the values of the names.
 fn show_b(buf: &mut [u8], at: usize, b: BRecord, held: Held, names: &[u8], line: &[u8]) -> usize
-    ensures { λ r. ⌜ Wrote (now (buf .entry)) at (bShown b held (now (names .entry)) (now (line .entry))) (now (buf .exit)) r ⌝ }
+    ensures { λ r. ⌜ Wrote (now (buf .entry)) at (bShown b held (now (names .entry)) (now (line .entry)))
+        (now (buf .exit)) r ⌝ }
 {
     let timestamp = b.timestamp;
     let pos = b.pos;
@@ -162,7 +163,8 @@ pub fn show_record(
     names: &[u8],
     line: &[u8],
 ) -> usize
-    ensures { λ r. ⌜ Wrote (now (buf .entry)) at (recordShown rec table held (now (names .entry)) (now (line .entry))) (now (buf .exit)) r ⌝ }
+    ensures { λ r. ⌜ Wrote (now (buf .entry)) at (recordShown rec table held (now (names .entry)) (now (line .entry)))
+        (now (buf .exit)) r ⌝ }
 {
     match rec {
         Record::A(a) => show_a(buf, at, a),

@@ -86,7 +86,8 @@ fn asked_count(held: Held, names: &[u8]) -> usize
 // The i-th of them.
 fn asked_at(held: Held, names: &[u8], i: usize) -> Mnemonic
     requires { ⌜ i < length (askedFor held (now names)) ⌝ }
-    ensures { λ r. ⌜ drop i (askedFor held (now (names .entry))) ≡ r ∷ drop (suc i) (askedFor held (now (names .entry))) ⌝ }
+    ensures { λ r. ⌜ drop i (askedFor held (now (names .entry))) ≡ r ∷ drop (suc i) (askedFor held (now (names .entry)))
+        ⌝ }
 {
     if names.len() < 3 {
         let table = held.table;
@@ -106,7 +107,8 @@ pub fn show_values(
     names: &[u8],
     line: &[u8],
 ) -> usize
-    ensures { λ r. ⌜ Wrote (now (buf .entry)) at (texts (valueShown held rest (now (line .entry))) (askedFor held (now (names .entry)))) (now (buf .exit)) r ⌝ }
+    ensures { λ r. ⌜ Wrote (now (buf .entry))
+        at (texts (valueShown held rest (now (line .entry))) (askedFor held (now (names .entry)))) (now (buf .exit)) r ⌝ }
 {
     let n = asked_count(held, names);
     let mut end = at;

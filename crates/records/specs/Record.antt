@@ -15,7 +15,8 @@ use Rattle.records.specs.declared.{Record.Record, MaybeFix.MaybeFix, Rea
 
 -- D, E, F, G, K and L are not taken.
 unfoldable pub isNotTaken : ℕ → Bool
-isNotTaken b = (b =? code "D") ∨? (b =? code "E") ∨? (b =? code "F") ∨? (b =? code "G") ∨? (b =? code "K") ∨? (b =? code "L")
+isNotTaken b = (b =? code "D") ∨? (b =? code "E") ∨? (b =? code "F") ∨? (b =? code "G") ∨? (b =? code "K")
+    ∨? (b =? code "L")
 
 -- The kinds of line.
 pub data Kind : Type 0 where
@@ -85,7 +86,8 @@ recordPiece (Record.A r) t s = aBody r (partBytes (r .«unique_id») s) (maybeBy
 recordPiece (Record.B r) t s = bBody r (partBytes (r .rest) s)
 recordPiece (Record.CDeclaration r) t s = declarationBody r (maybeBytes (r .«task_name») s)
 recordPiece (Record.CTurnpoint r) t s = turnpointBody r (maybeBytes (r .«turnpoint_name») s)
-recordPiece (Record.H r) t s = hBody r (partBytes (r .mnemonic) s) (maybeBytes (r .«friendly_name») s) (partBytes (r .«data») s)
+recordPiece (Record.H r) t s = hBody r (partBytes (r .mnemonic) s) (maybeBytes (r .«friendly_name») s)
+    (partBytes (r .«data») s)
 recordPiece Record.I t s = tableBody (code "I") t
 recordPiece Record.J t s = tableBody (code "J") t
 recordPiece (Record.NotTaken p) t s = partBytes p s

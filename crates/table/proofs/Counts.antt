@@ -12,7 +12,8 @@ digits-below most w s l =
 
 nat-below : (most w : ℕ) (s : List ℕ) → length s ≤ w → Finds (readNat most s) (λ v. v < 10 ^ w)
 unfolding readNat
-nat-below most w s l = finds-pick (λ _. digits-below most w (drop 1 s) (omega (arith, length-drop 1 s))) (λ _. digits-below most w s l)
+nat-below most w s l = finds-pick (λ _. digits-below most w (drop 1 s) (omega (arith, length-drop 1 s)))
+    (λ _. digits-below most w s l)
 
 pub two-characters : (most : ℕ) (s : List ℕ) {v : ℕ} → length s ≤ 2 → ok v ≡ readNat most s → v ≤ 99
 two-characters most s {v} l h = omega (arith, nat-below most 2 s l .found v (sym h))

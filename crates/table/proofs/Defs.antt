@@ -50,14 +50,25 @@ pub record Turn (body : List ℕ) (n i : ℕ) (defs : List Extension) : Type 0 w
   pub left : defsBehind p (readDefs (n - i) (drop (i * 7) body)) ≡ readDefs n body
 
 pub turn-start : (body : List ℕ) (n : ℕ) → Turn body n 0 (replicate 99 empty)
-turn-start body n = record { p = []; count = refl; inside = omega arith; held = refl; left = behind-none _ ∙ ap (λ (k : ℕ). readDefs k body) (omega arith) }
+turn-start body n =
+    record {
+      p = [];
+      count = refl;
+      inside = omega arith;
+      held = refl;
+      left = behind-none
+          _ ∙ ap (λ (k : ℕ). readDefs k body) (omega arith);
+    }
 
 module _ (body : List ℕ) (n i : ℕ) (defs : List Extension) (t : Turn body n i defs) (more : i < n) where
-  rest : defsBehind (t .p) (bind (readExtension (take 7 (drop (i * 7) body))) (λ e. bind (readDefs (n - (i + 1)) (drop ((i + 1) * 7) body)) (λ es. ok (e ∷ es)))) ≡ readDefs n body
+  rest : defsBehind (t .p)
+      (bind (readExtension (take 7 (drop (i * 7) body)))
+      (λ e. bind (readDefs (n - (i + 1)) (drop ((i + 1) * 7) body)) (λ es. ok (e ∷ es)))) ≡ readDefs n body
   rest =
       let k : n - i ≡ suc (n - (i + 1)) = omega arith in
       let d : (i + 1) * 7 ≡ i * 7 + 7 = omega arith in
-      rw (d, ← drop-drop) (ap (defsBehind (t .p)) (sym (readDefs-suc (n - (i + 1)) (drop (i * 7) body))) ∙ (rw k at (t .left)))
+      rw (d, ← drop-drop) (ap (defsBehind (t .p)) (sym (readDefs-suc (n - (i + 1)) (drop (i * 7) body)))
+      ∙ (rw k at (t .left)))
 
   part : take (i * 7 + 7 - i * 7) (drop (i * 7) body) ≡ take 7 (drop (i * 7) body)
   part = ap (λ (k : ℕ). take k (drop (i * 7) body)) (add-sub-cancel-left (i * 7) 7)
@@ -80,7 +91,10 @@ module _ (body : List ℕ) (n i : ℕ) (defs : List Extension) (t : Turn body n 
             ap (λ l. set l i e) (t .held ∙ ap (λ (m : ℕ). t .p ++ replicate m empty) k)
             ∙ set-at (t .p) empty (replicate (99 - (i + 1)) empty) e i (t .count)
             ∙ sym (append-assoc (t .p) (e ∷ []) (replicate (99 - (i + 1)) empty));
-        left = sym (behind-one (t .p) e (readDefs (n - (i + 1)) (drop ((i + 1) * 7) body))) ∙ ap (λ m. defsBehind (t .p) (bind m (λ e. bind (readDefs (n - (i + 1)) (drop ((i + 1) * 7) body)) (λ es. ok (e ∷ es))))) (h ∙ ap readExtension part) ∙ rest;
+        left = sym (behind-one (t .p) e (readDefs (n - (i + 1)) (drop ((i + 1) * 7) body)))
+            ∙ ap (λ m. defsBehind (t .p)
+            (bind m (λ e. bind (readDefs (n - (i + 1)) (drop ((i + 1) * 7) body)) (λ es. ok (e ∷ es)))))
+            (h ∙ ap readExtension part) ∙ rest;
       }
 
 held-as : ℕ → List Extension → TableRead
@@ -106,7 +120,8 @@ defs-append (d ∷ a) b = rw (defs-append a b, append-assoc)
 
 -- the first i definitions, and then the next
 pub defs-then : {b b′ b″ : List ℕ} {at j k : ℕ} (l : List Extension) (i : ℕ) (d : Extension) → i < length l
-    → Wrote b at (defsText (take i l)) b′ j → Wrote b′ j (extensionText (getD l i d)) b″ k → Wrote b at (defsText (take (i + 1) l)) b″ k
+    → Wrote b at (defsText (take i l)) b′ j → Wrote b′ j (extensionText (getD l i d)) b″ k
+    → Wrote b at (defsText (take (i + 1) l)) b″ k
 unfolding defsText
 defs-then l i d h p q = rw (add-one, take-suc l i d h, defs-append, append-nil) (then p q)
 

@@ -26,7 +26,8 @@ got s at {r} e v a = rw (reading-is r a, v, e)
 
 -- what was read there, as line n at the place p with h held after it
 abbrev pub gotRead : Got → List ℕ → ℕ → ℕ → Held → Line-read
-gotRead g s n p h = record { number = n; place = p; line = partBytes (g .line) s; answer = readingRes (g .reading); held = h }
+gotRead g s n p h =
+    record { number = n; place = p; line = partBytes (g .line) s; answer = readingRes (g .reading); held = h }
 
 module _ (at : ℕ) (s : List ℕ) {g : Got} (e : g ≡ gotAt at s) where
   -- its part and the next place are the cut's
@@ -41,7 +42,8 @@ module _ (at : ℕ) (s : List ℕ) {g : Got} (e : g ≡ gotAt at s) where
 
 -- ---- a turn, with all that is carried
 
-module _ {T : Type 0} {step : T → Line-read → T} {c₀ : Carried Held T} {s : List ℕ} {at n p : ℕ} {h : Held} {a : T} {g : Got}
+module _ {T : Type 0} {step : T → Line-read → T} {c₀ : Carried Held T} {s : List ℕ} {at n p : ℕ} {h : Held} {a : T}
+    {g : Got}
     (i : at < length s) (r : Reached reader step c₀ s at (record { number = n; place = p; held = h; made = a }))
     (e : g ≡ gotAt at s) where
   -- what is held after the line
@@ -53,10 +55,12 @@ module _ {T : Type 0} {step : T → Line-read → T} {c₀ : Carried Held T} {s 
       a′ ≡ step a (gotRead g s (n + 1) p after) →
       Reached reader step c₀ s (g .next) (record { number = n + 1; place = p′; held = h′; made = a′ })
   turn q k m =
-      log.line {cut = record { line = g .line; next = g .next }} i r (cut-of at s e) refl q k (rw (answer-of at s e) at m)
+      log.line {cut = record { line = g .line; next = g .next }} i r (cut-of at s e) refl q k
+      (rw (answer-of at s e) at m)
 
   -- the line is the one that is cut there, and the answer is the one to it
-  pub cut-here : let l = bytesOf (cutAt at s .line) s in (partBytes (g .line) s ≡ l) × (readingRes (g .reading) ≡ readLine l)
+  pub cut-here : let l = bytesOf (cutAt at s .line) s in (partBytes (g .line) s ≡ l)
+      × (readingRes (g .reading) ≡ readLine l)
   unfolding gotAt
   cut-here = rw (e, viewed (readLine (partBytes (cutAt at s .line) s)), cut-shown s at (r .inside)) (refl, refl)
 
@@ -76,7 +80,8 @@ module _ {T : Type 0} (step : T → Line-read → T) (a₀ : T) (s : List ℕ) w
   pub record Made (at : ℕ) (a : T) : Type 0 where
     pub number : ℕ
     pub held : Held
-    pub reached : Reached reader step (fresh reader a₀) s at (record { number = number; place = at; held = held; made = a })
+    pub reached : Reached reader step (fresh reader a₀) s
+        at (record { number = number; place = at; held = held; made = a })
 
 module _ {T : Type 0} {step : T → Line-read → T} where
   -- before the first line

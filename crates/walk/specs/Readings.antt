@@ -15,7 +15,8 @@ use Rattle.walk.specs.declared.{Walk.Walk, Taken.Taken, Taken.the-varian
 abbrev pub reader : Reader (Res Record) Held
 reader = record { read = readLine; after = λ p h s. heldAfter (code "I") h s; start = noTable }
 
-pub i-lines-set : (p : ℕ) (h : Held) (s : List ℕ) → heldAfter (code "I") h s ≡ pick (begins (code "I") s) (setBy (readTable s)) h
+pub i-lines-set : (p : ℕ) (h : Held) (s : List ℕ) → heldAfter (code "I") h s ≡ pick (begins (code "I") s)
+    (setBy (readTable s)) h
 unfolding heldAfter
 i-lines-set p h s = refl
 
@@ -31,7 +32,14 @@ Line-read = LineRead (Res Record) Held
 unfoldable pub readBy : List ℕ → Taken → Walk → List Line-read → List Line-read
 readBy s Done w later = []
 readBy s (Line part reading) w later =
-    record { number = w .at .number; place = part .start; line = bytesOf part s; answer = readingRes reading; held = w .held } ∷ later
+    record {
+      number = w .at .number;
+      place = part .start;
+      line = bytesOf part s;
+      answer = readingRes reading;
+      held =
+          w .held;
+    } ∷ later
 
 -- The readings of at most k steps of a walk, up to the one that is done.
 unfoldable pub walked : ℕ → List ℕ → Walk → List Line-read

@@ -59,7 +59,8 @@ wholeLength-later : (j : ℕ) (s : List ℕ) → 0 < wholeLength (drop j s) → 
 unfolding wholeLength
 wholeLength-later zero s h = omega arith
 wholeLength-later (suc j) [] h = absurd (omega arith)
-wholeLength-later (suc j) (b ∷ s) h = let e = wholeLength-later j s h in grow-some b (wholeLength s) (omega arith) ∙ omega (arith, e)
+wholeLength-later (suc j) (b ∷ s) h = let e = wholeLength-later j s h in grow-some b (wholeLength s) (omega arith)
+    ∙ omega (arith, e)
 
 -- no LF stands from i on
 pub record NoneFrom (s : List ℕ) (i : ℕ) : Type 0 where

@@ -10,8 +10,5 @@ is-long-spec =
     tie.close
     (tie.spec
     (λ c. sym (fails _ (no≤ (search needs))))
-    (search needs)
-    (search needs)
-    (search needs)
-    (search needs)
+    (search needs) (search needs) (search needs) (search needs)
     (λ c. sym (holds (yes≤ (search needs)) (sym (c .all-digits .ensures)))))

@@ -18,10 +18,6 @@ unfolding tripleText
 put-triple-spec =
     tie.close
     (tie.spec
-    (search needs)
-    (search needs)
-    (search needs)
-    (search needs)
-    (search needs)
+    (search needs) (search needs) (search needs) (search needs) (search needs)
     (λ c. rw (three (search needs)) (search needs))
     (λ c. rw (none c) (wrote-nothing _ _ (omega arith) (omega arith))))

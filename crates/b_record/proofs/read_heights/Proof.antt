@@ -31,18 +31,8 @@ unfolding readHeights
 read-heights-spec =
     tie.close
     (tie.spec
-    (search needs)
-    (search needs)
-    (search needs)
-    (search needs)
-    (search needs)
-    (search needs)
+    (search needs) (search needs) (search needs) (search needs) (search needs) (search needs)
     (λ c. off _ (no-pressure (search needs)))
-    (search needs)
-    (search needs)
-    (search needs)
-    (search needs)
-    (search needs)
-    (search needs)
+    (search needs) (search needs) (search needs) (search needs) (search needs) (search needs)
     (λ c. on _ (pressure (search needs)) (on _ (gps (search needs)) (search needs)))
     (λ c. on _ (pressure (search needs)) (off _ (no-gps (search needs)))))

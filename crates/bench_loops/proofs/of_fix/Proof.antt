@@ -25,7 +25,8 @@ add-heights : tie.Need-add-heights
 add-heights c = omega (arith, pressure (c .before .before) .1, gps c .1)
 
 add-result-2 : tie.Need-add-result-2
-add-result-2 c = let p = c .before .before .before in omega (arith, minutes (p .before .before), pressure p .1, gps (c .before) .1)
+add-result-2 c = let p = c .before .before .before in
+    omega (arith, minutes (p .before .before), pressure p .1, gps (c .before) .1)
 
 returns : tie.Need-returns
 unfolding ofFix
@@ -35,14 +36,8 @@ pub of-fix-spec : {M : Type 1} → statement M
 of-fix-spec =
     tie.close
     (tie.spec
-    (search needs)
-    (search needs)
-    (search needs)
-    (search needs)
-    (search needs)
+    (search needs) (search needs) (search needs) (search needs) (search needs)
     add-heights
-    (search needs)
-    (search needs)
-    (search needs)
+    (search needs) (search needs) (search needs)
     add-result-2
     returns)

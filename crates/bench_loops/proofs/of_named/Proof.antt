@@ -8,9 +8,7 @@ unfolding ofNamed
 of-named-spec =
     tie.close
     (tie.spec
-    (search needs)
-    (search needs)
-    (search needs)
-    (search needs)
-    (λ c. let get = c .before in rw (get .before .before .fix .given .1) (c .of-value .ensures ∙ ap ofValue (get .get .ensures .bytes)))
+    (search needs) (search needs) (search needs) (search needs)
+    (λ c. let get = c .before in rw (get .before .before .fix .given .1)
+    (c .of-value .ensures ∙ ap ofValue (get .get .ensures .bytes)))
     (λ c. rw (c .enum-told .given .1)))

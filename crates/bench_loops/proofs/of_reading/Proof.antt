@@ -17,12 +17,7 @@ unfolding ofAnswer ofAccepted
 of-reading-spec =
     tie.close
     (tie.spec
-    (search needs)
-    (search needs)
-    (search needs)
-    (search needs)
-    (search needs)
-    (search needs)
+    (search needs) (search needs) (search needs) (search needs) (search needs) (search needs)
     (λ c. rw (c .enum-told .given .1))
     (λ c. let fix = c .before .before in c .of-fix .ensures ∙ seen (fix .before .before) (fix .fix2 .given .1))
     (λ c. seen (c .before .before) (c .enum-told2 .given .1)))

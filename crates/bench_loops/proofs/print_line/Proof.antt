@@ -8,7 +8,8 @@ use Rattle.bench_loops.proofs.print_line.Tie as tie
 
 -- the text of the record is that of the answer
 text : (c : tie.After-table) → let a = c .before .before .before .before .before .before .args in
-    recordText (c .before .before .reading .given .0 .0) (c .table .result) (now (a .line)) ≡ answerPrinted (readingRes (a .reading)) (now (a .line))
+    recordText (c .before .before .reading .given .0 .0) (c .table .result) (now (a .line)) ≡ answerPrinted
+    (readingRes (a .reading)) (now (a .line))
 unfolding answerPrinted bind
 text c = rw (c .before .before .reading .given .1, c .table .ensures)
 
@@ -36,12 +37,7 @@ pub print-line-spec : {M : Type 1} → statement M
 print-line-spec =
     tie.close
     (tie.spec
-    (search needs)
-    (search needs)
-    (search needs)
-    (search needs)
-    (search needs)
-    (search needs)
+    (search needs) (search needs) (search needs) (search needs) (search needs) (search needs)
     unread
     (search needs)
     written-out

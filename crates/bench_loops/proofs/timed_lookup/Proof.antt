@@ -11,7 +11,8 @@ use Rattle.bench_loops.proofs.timed_lookup.Tie as tie
 -- how many lines were read is not looked at
 abbrev Inv-loop : tie.InvT-loop
 Inv-loop log a b c name held₀ sum₀ at₀ held sum at =
-    (n : ℕ) × Reached reader (lookUpStep name) (fresh reader 0) log at (record { number = n; place = at; held = held; made = sum })
+    (n : ℕ) × Reached reader (lookUpStep name) (fresh reader 0) log
+    at (record { number = n; place = at; held = held; made = sum })
 
 abbrev μ-loop : tie.MeasureT-loop
 μ-loop log a b c name held₀ sum₀ at₀ held sum at = length log - at
@@ -34,7 +35,14 @@ loop-again c =
     let read = view .before .before in
     let test = read .before in
     let held = rw (view .view .ensures .bytes) at (after .after .ensures) in
-    let made = rw (sum .wrapping-add-u64 .ensures, of .of-reading .ensures, named .of-named .ensures, fix .fix .ensures, held, view .view .ensures .bytes) at (c .wrapping-add-u642 .ensures) in
+    let made = rw (
+      sum .wrapping-add-u64 .ensures,
+      of .of-reading .ensures,
+      named .of-named .ensures,
+      fix .fix .ensures,
+      held,
+      view .view .ensures .bytes,
+    ) at (c .wrapping-add-u642 .ensures) in
     (_, turn (test .loop-test .taken) (test .before .loop .inv .1) (read .read-at .ensures) (omega arith) held made)
 
 pub timed-lookup-spec : {M : Type 1} → statement M
@@ -46,13 +54,7 @@ timed-lookup-spec =
     μ-loop
     (search needs)
     (λ c. rw (c .new .ensures) (_, at-start))
-    (search needs)
-    (search needs)
-    (search needs)
-    (search needs)
-    (search needs)
-    (search needs)
-    (search needs)
+    (search needs) (search needs) (search needs) (search needs) (search needs) (search needs) (search needs)
     (search needs)
     loop-less
     loop-again

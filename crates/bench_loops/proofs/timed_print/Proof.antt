@@ -7,7 +7,8 @@ use Rattle.bench_loops.proofs.timed_print.Tie as tie
 
 abbrev Inv-loop : tie.InvT-loop
 Inv-loop log buf₀ sum₀ at₀ buf sum at =
-    Made printStep (record { sum = 0; bytes = buf₀ }) log at (record { sum = sum; bytes = buf }) × (length buf ≡ length buf₀)
+    Made printStep (record { sum = 0; bytes = buf₀ }) log at (record { sum = sum; bytes = buf })
+    × (length buf ≡ length buf₀)
 
 abbrev μ-loop : tie.MeasureT-loop
 μ-loop log buf₀ sum₀ at₀ buf sum at = length log - at
@@ -37,10 +38,7 @@ timed-print-spec =
     Inv-loop
     μ-loop
     (λ c. (at-start, refl))
-    (search needs)
-    (search needs)
-    (search needs)
-    (search needs)
+    (search needs) (search needs) (search needs) (search needs)
     loop-less
     loop-again
     (search needs)

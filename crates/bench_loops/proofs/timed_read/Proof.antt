@@ -31,9 +31,7 @@ timed-read-spec =
     Inv-loop
     μ-loop
     (λ c. at-start)
-    (search needs)
-    (search needs)
-    (search needs)
+    (search needs) (search needs) (search needs)
     loop-less
     loop-again
     (λ c. at-end (c .loop-test .left) (c .before .loop .inv)))

@@ -45,8 +45,11 @@ loop-again c =
     let i = test .if1 .taken in
     let inv = test .before .before .loop .inv in
     let e = step .step .ensures in
-    let read = step-read (inv .1) i (inv .0) e (taken .taken .given .1) in
-    (step-turn (inv .1) i (inv .0) e (λ n h. rw (of .of-reading .ensures, read) at (c .before .wrapping-add-u64 .ensures)), inv .1)
+    let read = step-read (inv .1) i (inv .0) e (taken .taken .given .1) in (
+      step-turn (inv .1) i (inv .0) e
+          (λ n h. rw (of .of-reading .ensures, read) at (c .before .wrapping-add-u64 .ensures)),
+      inv .1,
+    )
 
 pub timed-step-spec : {M : Type 1} → statement M
 unfolding readSum
@@ -57,12 +60,9 @@ timed-step-spec =
     μ-loop
     (search needs)
     loop-holds
-    (search needs)
-    (search needs)
+    (search needs) (search needs)
     never
-    (search needs)
-    (search needs)
-    (search needs)
+    (search needs) (search needs) (search needs)
     loop-less
     loop-again
     (λ c. product (omega arith) (c .before .before .loop .inv .0)))

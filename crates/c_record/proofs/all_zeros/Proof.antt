@@ -16,13 +16,17 @@ abbrev μ-loop : tie.MeasureT-loop
 μ-loop text i₀ i = length text - i
 
 returns : tie.Need-returns Inv-loop μ-loop
-returns c = let l = c .before .before .before .loop in every-fails every-zero _ (l .i) (search needs) (l .inv .1) (no= (search needs))
+returns c = let l = c .before .before .before .loop in every-fails every-zero _ (l .i) (search needs) (l .inv .1)
+    (no= (search needs))
 
 loop-again : tie.Need-loop-again Inv-loop μ-loop
-loop-again c = let l = c .before .before .before .loop in (search needs, every-next every-zero _ (l .i) (search needs) (l .inv .1) (yes= (search needs)))
+loop-again c = let l = c .before .before .before .loop in
+    (search needs, every-next every-zero _ (l .i) (search needs) (l .inv .1) (yes= (search needs)))
 
 ends : tie.Need-returns-2 Inv-loop μ-loop
 ends c = every-done every-zero _ (c .before .loop .i) (search needs) (c .before .loop .inv .1)
 
 pub all-zeros-spec : {M : Type 1} → statement M
-all-zeros-spec = tie.close (tie.spec Inv-loop μ-loop (search needs) (search needs) returns (search needs) (search needs) loop-again ends)
+all-zeros-spec =
+    tie.close (tie.spec Inv-loop μ-loop (search needs) (search needs) returns (search needs) (search needs) loop-again
+    ends)

@@ -8,8 +8,6 @@ unfolding flightBook
 flight-by-the-book-spec =
     tie.close
     (tie.spec
-    (search needs)
-    (search needs)
-    (search needs)
+    (search needs) (search needs) (search needs)
     (λ c. rw (c .enum-told .given .1))
     (λ c. rw (c .before .before .flight .given .1) (c .by-the-book .ensures)))

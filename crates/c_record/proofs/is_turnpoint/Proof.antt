@@ -16,4 +16,5 @@ south c = second _ (no= {b = 78} (c .before .if2 .left)) refl
 
 pub is-turnpoint-spec : {M : Type 1} → statement M
 unfolding turns _∨?_
-is-turnpoint-spec = tie.close (tie.spec none (search needs) (λ c. first _ (yes= (search needs)) refl) (search needs) south)
+is-turnpoint-spec =
+    tie.close (tie.spec none (search needs) (λ c. first _ (yes= (search needs)) refl) (search needs) south)

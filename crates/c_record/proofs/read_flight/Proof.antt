@@ -18,8 +18,8 @@ read-flight-spec =
     (tie.spec
     (search needs)
     (λ c. first _ (sym (c .before .all-zeros .ensures) ∙ c .if1 .taken) refl)
-    (search needs)
-    (search needs)
-    (search needs)
-    (λ c. second _ (some (search needs)) (on _ (came dateRes (c .before .date .given .1) (c .before .before .before .parse .ensures)) refl))
-    (λ c. second _ (some (search needs)) (off _ (came dateRes (c .before .no-date .given .1) (c .before .before .before .parse .ensures)))))
+    (search needs) (search needs) (search needs)
+    (λ c. second _ (some (search needs))
+    (on _ (came dateRes (c .before .date .given .1) (c .before .before .before .parse .ensures)) refl))
+    (λ c. second _ (some (search needs))
+    (off _ (came dateRes (c .before .no-date .given .1) (c .before .before .before .parse .ensures)))))

@@ -13,8 +13,7 @@ unfolding _∨?_
 one-of-spec =
     tie.close
     (tie.spec
-    (search needs)
-    (search needs)
+    (search needs) (search needs)
     (λ c. first _ (yes= (search needs)) refl)
     (search needs)
     (λ c. second _ (no= (search needs)) (same (c .before .before .before .letter .ensures) (c .letter3 .ensures))))

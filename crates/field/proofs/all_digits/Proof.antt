@@ -21,10 +21,13 @@ loop-again c =
     let l = c .before .before .before .before .loop in
     let digit = c .before .is-digit .ensures in
     next-seen every-digit _ (l .i) (l .all) (search needs) (l .inv)
-    (⊎-elim (λ w. w .1 ∙ sym (fails _ (so-false digit (w .0 .taken)))) (λ w. w .1 ∙ sym (holds (so-true digit (w .0 .left)) refl)) (c .if1 .came))
+    (⊎-elim (λ w. w .1 ∙ sym (fails _ (so-false digit (w .0 .taken))))
+    (λ w. w .1 ∙ sym (holds (so-true digit (w .0 .left)) refl)) (c .if1 .came))
 
 ends : tie.Need-returns Inv-loop μ-loop
 ends c = all-seen every-digit _ (c .before .loop .i) (search needs) (c .before .loop .inv)
 
 pub all-digits-spec : {M : Type 1} → statement M
-all-digits-spec = tie.close (tie.spec Inv-loop μ-loop (λ c. holds refl refl) (search needs) (search needs) (search needs) (search needs) loop-again ends)
+all-digits-spec =
+    tie.close (tie.spec Inv-loop μ-loop (λ c. holds refl refl) (search needs) (search needs) (search needs)
+    (search needs) loop-again ends)

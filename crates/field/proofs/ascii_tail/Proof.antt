@@ -14,13 +14,17 @@ abbrev μ-loop : tie.MeasureT-loop
 μ-loop text at i₀ i = length text - i
 
 returns : tie.Need-returns Inv-loop μ-loop
-returns c = let l = c .before .before .before .loop in every-fails every-ascii _ (l .i) (search needs) (l .inv) (no≤ (search needs))
+returns c = let l = c .before .before .before .loop in every-fails every-ascii _ (l .i) (search needs) (l .inv)
+    (no≤ (search needs))
 
 loop-again : tie.Need-loop-again Inv-loop μ-loop
-loop-again c = let l = c .before .before .before .loop in every-next every-ascii _ (l .i) (search needs) (l .inv) (yes≤ (search needs))
+loop-again c = let l = c .before .before .before .loop in every-next every-ascii _ (l .i) (search needs) (l .inv)
+    (yes≤ (search needs))
 
 ends : tie.Need-returns-2 Inv-loop μ-loop
 ends c = every-done every-ascii _ (c .before .loop .i) (search needs) (c .before .loop .inv)
 
 pub ascii-tail-spec : {M : Type 1} → statement M
-ascii-tail-spec = tie.close (tie.spec Inv-loop μ-loop (λ c. refl) (search needs) returns (search needs) (search needs) loop-again ends)
+ascii-tail-spec =
+    tie.close (tie.spec Inv-loop μ-loop (λ c. refl) (search needs) returns (search needs) (search needs) loop-again
+    ends)

@@ -5,4 +5,5 @@ use Rattle.field.proofs.is_digit.Tie as tie
 
 pub is-digit-spec : {M : Type 1} → statement M
 unfolding isDigit
-is-digit-spec = tie.close (tie.spec (λ c. sym (fails _ (no≤ (search needs)))) (λ c. sym (holds (yes≤ (search needs)) (tested _ _))))
+is-digit-spec = tie.close
+    (tie.spec (λ c. sym (fails _ (no≤ (search needs)))) (λ c. sym (holds (yes≤ (search needs)) (tested _ _))))

@@ -22,4 +22,5 @@ ends : tie.Need-returns-2 Inv-loop μ-loop
 ends c = colon-nowhere _ _ (c .before .loop .inv .1) (search needs)
 
 pub colon-spec : {M : Type 1} → statement M
-colon-spec = tie.close (tie.spec Inv-loop μ-loop (λ c. (search needs, refl)) (search needs) found (search needs) (search needs) loop-again ends)
+colon-spec = tie.close (tie.spec Inv-loop μ-loop (λ c. (search needs, refl)) (search needs) found (search needs)
+    (search needs) loop-again ends)

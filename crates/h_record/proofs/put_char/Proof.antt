@@ -16,12 +16,7 @@ unfolding charText pick
 put-char-spec =
     tie.close
     (tie.spec
-    (search needs)
-    (search needs)
+    (search needs) (search needs)
     (λ c. rw (one (search needs)) (search needs))
-    (search needs)
-    (search needs)
-    (search needs)
-    (search needs)
-    (search needs)
+    (search needs) (search needs) (search needs) (search needs) (search needs)
     (λ c. rw (two (search needs)) (search (then))))

@@ -15,10 +15,7 @@ unfolding nameText findMaybe
 put-name-spec =
     tie.close
     (tie.spec
-    (search needs)
-    (search needs)
-    (search needs)
-    (search needs)
+    (search needs) (search needs) (search needs) (search needs)
     (λ c. rw (c .enum-told .given .1) (wrote-nothing _ _ (omega arith) (omega arith)))
     (search needs)
     (λ c. rw (there (search needs)) (search (then))))

@@ -15,9 +15,6 @@ unfolding heightsOf
 put-heights-spec =
     tie.close
     (tie.spec
-    (search needs)
-    (search needs)
-    (search needs)
-    (search needs)
+    (search needs) (search needs) (search needs) (search needs)
     fix
     (λ c. rw (c .enum-told .given .1) (wrote-nothing _ _ (omega arith) (omega arith))))

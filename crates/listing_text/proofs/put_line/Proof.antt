@@ -11,7 +11,8 @@ returns c =
     let heights = lf .before .before .before .before in
     let fix = heights .before in
     let head = fix .before .before .before .before in
-    then (head .put-head .ensures) (then (rw (fix .fix .ensures) at (heights .put-heights .ensures)) (lf .put-byte .ensures))
+    then (head .put-head .ensures)
+    (then (rw (fix .fix .ensures) at (heights .put-heights .ensures)) (lf .put-byte .ensures))
 
 pub put-line-spec : {M : Type 1} → statement M
 put-line-spec = tie.close (tie.spec (search needs) (search needs) (search needs) (search needs) (search needs) returns)

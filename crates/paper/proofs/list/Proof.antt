@@ -13,16 +13,7 @@ pub list-spec : {M : Type 1} → statement M
 list-spec =
     tie.close
     (tie.spec
-    (search needs)
-    (search needs)
-    (search needs)
-    (search needs)
-    (search needs)
-    (search needs)
+    (search needs) (search needs) (search needs) (search needs) (search needs) (search needs)
     inside
-    (search needs)
-    (search needs)
-    (search needs)
-    (search needs)
-    (search needs)
+    (search needs) (search needs) (search needs) (search needs) (search needs)
     (search needs))

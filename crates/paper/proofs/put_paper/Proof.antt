@@ -24,10 +24,7 @@ pub put-paper-spec : {M : Type 1} → statement M
 put-paper-spec =
     tie.close
     (tie.spec
-    (search needs)
-    (search needs)
-    (search needs)
-    (search needs)
+    (search needs) (search needs) (search needs) (search needs)
     written
     (search needs)
     refused)

@@ -71,9 +71,7 @@ put-ready-spec =
     Inv-loop
     μ-loop
     loop-holds
-    (search needs)
-    (search needs)
-    (search needs)
+    (search needs) (search needs) (search needs)
     (λ c. omega (arith, number-fits (search needs)))
     (search needs)
     (λ c. omega (arith, place-fits (search needs)))

@@ -23,12 +23,7 @@ pub parse-b-spec : {M : Type 1} → statement M
 parse-b-spec =
     tie.close
     (tie.spec
-    (search needs)
-    (search needs)
-    (search needs)
-    (search needs)
-    (search needs)
-    (search needs)
+    (search needs) (search needs) (search needs) (search needs) (search needs) (search needs)
     quick
     plain
     refused)

@@ -35,14 +35,9 @@ parse-c-spec =
     tie.close
     (tie.spec
     (λ c. stop _ (no≤ (search needs)))
-    (search needs)
-    (search needs)
-    (search needs)
-    (search needs)
+    (search needs) (search needs) (search needs) (search needs)
     (λ c. pass _ (yes≤ (long (search needs))) (first _ (turn (search needs)) (on _ (point (search needs)) refl)))
     (λ c. pass _ (yes≤ (long (search needs))) (first _ (turn (search needs)) (off _ (no-point (search needs)))))
-    (search needs)
-    (search needs)
-    (search needs)
+    (search needs) (search needs) (search needs)
     (λ c. pass _ (yes≤ (long (search needs))) (second _ (no-turn (search needs)) (on _ (task (search needs)) refl)))
     (λ c. pass _ (yes≤ (long (search needs))) (second _ (no-turn (search needs)) (off _ (no-task (search needs))))))

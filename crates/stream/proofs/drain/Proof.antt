@@ -36,20 +36,11 @@ pub drain-spec : {M : Type 1} → statement M
 drain-spec =
     tie.close
     (tie.spec
-    (search needs)
-    (search needs)
-    (search needs)
+    (search needs) (search needs) (search needs)
     long-line
-    (search needs)
-    (search needs)
+    (search needs) (search needs)
     inside
-    (search needs)
-    (search needs)
-    (search needs)
-    (search needs)
-    (search needs)
+    (search needs) (search needs) (search needs) (search needs) (search needs)
     not-written
-    (search needs)
-    (search needs)
-    (search needs)
+    (search needs) (search needs) (search needs)
     kept)

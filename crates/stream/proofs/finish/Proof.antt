@@ -21,12 +21,7 @@ pub finish-spec : {M : Type 1} → statement M
 finish-spec =
     tie.close
     (tie.spec
-    (search needs)
-    (search needs)
-    (search needs)
-    (search needs)
+    (search needs) (search needs) (search needs) (search needs)
     cut-short
-    (search needs)
-    (search needs)
-    (search needs)
+    (search needs) (search needs) (search needs)
     closed)

@@ -32,19 +32,10 @@ pub one-turn-spec : {M : Type 1} → statement M
 one-turn-spec =
     tie.close
     (tie.spec
-    (search needs)
-    (search needs)
-    (search needs)
+    (search needs) (search needs) (search needs)
     inside
-    (search needs)
-    (search needs)
-    (search needs)
-    (search needs)
-    (search needs)
-    (search needs)
-    (search needs)
+    (search needs) (search needs) (search needs) (search needs) (search needs) (search needs) (search needs)
     ended
-    (search needs)
-    (search needs)
+    (search needs) (search needs)
     full
     failed)

@@ -59,18 +59,11 @@ write-lines-spec =
     Inv-loop
     μ-loop
     (λ c. (at-start, refl, omega arith))
-    (search needs)
-    (search needs)
-    (search needs)
-    (search needs)
-    (search needs)
+    (search needs) (search needs) (search needs) (search needs) (search needs)
     no-room
-    (search needs)
-    (search needs)
+    (search needs) (search needs)
     fits
-    (search needs)
-    (search needs)
-    (search needs)
+    (search needs) (search needs) (search needs)
     not-written
     (λ c. omega (arith, more (written c) .0 .inside, written c .before .before .before .before .loop .inv .2))
     nearer

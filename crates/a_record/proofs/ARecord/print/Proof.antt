@@ -29,7 +29,8 @@ no-rest c = came foundRes (c .no-rest .given .1) (c .before .before .find2 .ensu
 
 full : tie.Need-returns
 unfolding aText partText maybeText
-full c = no-room (on _ (text-found _ (id (search needs))) (on _ (text-found _ (rest (search needs))) refl)) (c .before .before .put-piece .ensures) (search needs)
+full c = no-room (on _ (text-found _ (id (search needs))) (on _ (text-found _ (rest (search needs))) refl))
+    (c .before .before .put-piece .ensures) (search needs)
 
 fits : tie.Need-returns-4
 unfolding aText partText maybeText
@@ -45,13 +46,7 @@ unfolding aText partText maybeText textOf
 print-spec =
     tie.close
     (tie.spec
-    (search needs)
-    (search needs)
-    (search needs)
-    (search needs)
-    (search needs)
-    (search needs)
-    (search needs)
+    (search needs) (search needs) (search needs) (search needs) (search needs) (search needs) (search needs)
     (search needs)
     full
     (search needs)

@@ -21,9 +21,7 @@ unfolding declarationBook
 by-the-book-spec =
     tie.close
     (tie.spec
-    (search needs)
-    (search needs)
-    (search needs)
+    (search needs) (search needs) (search needs)
     (λ c. sym (holds (date (search needs)) (holds (time (search needs)) (sym (c .flight-by-the-book .ensures)))))
     (λ c. sym (holds (date (search needs)) (fails _ (sym (c .before .by-the-book2 .ensures) ∙ c .if2 .left))))
     (λ c. sym (fails _ (sym (c .before .by-the-book .ensures) ∙ c .if1 .left))))

@@ -8,9 +8,7 @@ unfolding lettered
 lettered-spec =
     tie.close
     (tie.spec
-    (search needs)
-    (search needs)
-    (search needs)
-    (search needs)
-    (λ c. on _ (came compassRes (c .before .before .sign .given .1) (c .before .before .before .before .sign-of .ensures)) (c .within .ensures))
+    (search needs) (search needs) (search needs) (search needs)
+    (λ c. on _ (came compassRes (c .before .before .sign .given .1)
+    (c .before .before .before .before .sign-of .ensures)) (c .within .ensures))
     (λ c. off _ (came compassRes (c .before .no-sign .given .1) (c .before .before .before .sign-of .ensures))))

@@ -9,7 +9,9 @@ new-spec =
     tie.close
     (tie.spec
     (search needs)
-    (λ c. pass _ (holds (yes≤ (search needs)) (holds (yes≤ (search needs)) (sym (c .before .one-of .ensures) ∙ c .if3 .taken))) refl)
-    (λ c. stop _ (holds (yes≤ (search needs)) (holds (yes≤ (search needs)) (sym (c .before .one-of .ensures) ∙ c .if3 .left))))
+    (λ c. pass _ (holds (yes≤ (search needs))
+    (holds (yes≤ (search needs)) (sym (c .before .one-of .ensures) ∙ c .if3 .taken))) refl)
+    (λ c. stop _ (holds (yes≤ (search needs))
+    (holds (yes≤ (search needs)) (sym (c .before .one-of .ensures) ∙ c .if3 .left))))
     (λ c. stop _ (holds (yes≤ (search needs)) (fails _ (no≤ (search needs)))))
     (λ c. stop _ (fails _ (no≤ (search needs)))))

@@ -10,12 +10,7 @@ unfolding bySign
 to-f32-spec =
     tie.close
     (tie.spec
-    (search needs)
-    (search needs)
-    (search needs)
-    (search needs)
-    (search needs)
-    (search needs)
+    (search needs) (search needs) (search needs) (search needs) (search needs) (search needs)
     (λ c. by-sign binary32 _ (c .enum-told .given .1))
     (λ c. by-sign binary32 _ (c .enum-told2 .given .1))
     (λ c. by-sign binary32 _ (c .enum-told3 .given .1))

@@ -10,9 +10,9 @@ unfolding dateIn
 parse-ascii-spec =
     tie.close
     (tie.spec
-    (search needs)
-    (search needs)
-    (search needs)
-    (search needs)
-    (λ c. on (madeBy dateOf) (came threeRes (c .before .before .t .given .1) (c .before .before .before .before .read-three .ensures)) (c .within .ensures) ∙ three-then dateOf _)
-    (λ c. off (madeBy dateOf) (came threeRes (c .before .no .given .1) (c .before .before .before .read-three .ensures)) ∙ three-then dateOf _))
+    (search needs) (search needs) (search needs) (search needs)
+    (λ c. on (madeBy dateOf)
+    (came threeRes (c .before .before .t .given .1) (c .before .before .before .before .read-three .ensures))
+    (c .within .ensures) ∙ three-then dateOf _)
+    (λ c. off (madeBy dateOf) (came threeRes (c .before .no .given .1) (c .before .before .before .read-three .ensures))
+    ∙ three-then dateOf _))

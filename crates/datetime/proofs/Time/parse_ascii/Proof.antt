@@ -10,9 +10,9 @@ unfolding timeIn
 parse-ascii-spec =
     tie.close
     (tie.spec
-    (search needs)
-    (search needs)
-    (search needs)
-    (search needs)
-    (λ c. on (madeBy timeOf) (came threeRes (c .before .before .t .given .1) (c .before .before .before .before .read-three .ensures)) (c .from-hms .ensures) ∙ three-then timeOf _)
-    (λ c. off (madeBy timeOf) (came threeRes (c .before .no .given .1) (c .before .before .before .read-three .ensures)) ∙ three-then timeOf _))
+    (search needs) (search needs) (search needs) (search needs)
+    (λ c. on (madeBy timeOf)
+    (came threeRes (c .before .before .t .given .1) (c .before .before .before .before .read-three .ensures))
+    (c .from-hms .ensures) ∙ three-then timeOf _)
+    (λ c. off (madeBy timeOf) (came threeRes (c .before .no .given .1) (c .before .before .before .read-three .ensures))
+    ∙ three-then timeOf _))

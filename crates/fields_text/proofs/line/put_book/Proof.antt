@@ -29,10 +29,7 @@ put-book-spec =
     (tie.spec
     (search needs)
     (λ c. rw (← unread c) (wrote-nothing _ _ (omega arith) (omega arith)))
-    (search needs)
-    (search needs)
-    (search needs)
+    (search needs) (search needs) (search needs)
     (λ c. rw (← yes (c .before .before .before .before)) (c .before .before .show-byte .ensures))
-    (search needs)
-    (search needs)
+    (search needs) (search needs)
     (λ c. rw (← no (c .before .before .before .before)) (c .before .before .show-byte2 .ensures)))

@@ -9,9 +9,6 @@ unfolding fieldsShown
 put-fields-spec =
     tie.close
     (tie.spec
-    (search needs)
-    (search needs)
-    (search needs)
-    (search needs)
+    (search needs) (search needs) (search needs) (search needs)
     (λ c. rw (c .before .before .before .before .before .reading .given .1) (c .before .before .put-seen .ensures))
     (λ c. rw (c .enum-told .given .1) (wrote-nothing _ _ (omega arith) (omega arith))))

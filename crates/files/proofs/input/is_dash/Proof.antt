@@ -7,4 +7,5 @@ use Rattle.files.proofs.input.is_dash.Tie as tie
 pub is-dash-spec : {M : Type 1} → statement M
 unfolding isDash _=?_
 is-dash-spec =
-    tie.close (tie.spec (λ c. sym (fails _ (no= (c .if1 .taken)))) (search needs) (λ c. sym (holds (yes= (c .before .if1 .left)) refl)))
+    tie.close (tie.spec (λ c. sym (fails _ (no= (c .if1 .taken)))) (search needs)
+    (λ c. sym (holds (yes= (c .before .if1 .left)) refl)))

@@ -15,13 +15,7 @@ pub write-text-spec : {M : Type 1} → statement M
 write-text-spec =
     tie.close
     (tie.spec
-    (search needs)
-    (search needs)
-    (search needs)
-    (search needs)
-    (search needs)
+    (search needs) (search needs) (search needs) (search needs) (search needs)
     terminal
-    (search needs)
-    (search needs)
-    (search needs)
+    (search needs) (search needs) (search needs)
     other)

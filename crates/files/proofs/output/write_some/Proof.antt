@@ -21,10 +21,5 @@ pub write-some-spec : {M : Type 1} → statement M
 write-some-spec =
     tie.close
     (tie.spec
-    (search needs)
-    (search needs)
-    (search needs)
-    (search needs)
-    (search needs)
-    (search needs)
+    (search needs) (search needs) (search needs) (search needs) (search needs) (search needs)
     returns)

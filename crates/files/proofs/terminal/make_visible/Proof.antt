@@ -26,10 +26,7 @@ make-visible-spec =
     Inv-loop
     μ-loop
     (λ c. at-start)
-    (search needs)
-    (search needs)
-    (search needs)
-    (search needs)
+    (search needs) (search needs) (search needs) (search needs)
     nearer
     next
     (λ c. c .before .loop .inv .long)

@@ -8,7 +8,6 @@ unfolding heldAfter
 after-spec =
     tie.close
     (tie.spec
-    (search needs)
-    (search needs)
+    (search needs) (search needs)
     (λ c. first _ (sym (c .before .before .begins .ensures) ∙ c .before .if1 .taken) (c .set-by .ensures))
     (λ c. second _ (sym (c .before .begins .ensures) ∙ c .if1 .left) refl))

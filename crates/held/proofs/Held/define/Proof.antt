@@ -13,8 +13,7 @@ unfolding define isSet
 define-spec =
     tie.close
     (tie.spec
-    (search needs)
-    (search needs)
+    (search needs) (search needs)
     (λ c. pass _ (is-set (search needs)) (stop _ (no≤ (search needs))))
     (search needs)
     (λ c. stop _ (ap isSet (c .enum-told .given .1)))

@@ -9,9 +9,7 @@ unfolding lookUp
 find-spec =
     tie.close
     (tie.spec
-    (search needs)
-    (search needs)
-    (search needs)
-    (search needs)
-    (λ c. on _ (came extensionRes (c .before .before .extension .given .1) (c .before .before .before .before .define .ensures)) (c .find .ensures))
+    (search needs) (search needs) (search needs) (search needs)
+    (λ c. on _ (came extensionRes (c .before .before .extension .given .1)
+    (c .before .before .before .before .define .ensures)) (c .find .ensures))
     (λ c. off _ (came extensionRes (c .before .no-definition .given .1) (c .before .before .before .define .ensures))))

@@ -28,8 +28,7 @@ unfolding keep slotOf
 set-by-spec =
     tie.close
     (tie.spec
-    (search needs)
-    (search needs)
-    (search needs)
+    (search needs) (search needs) (search needs)
     (λ c. ap (keep _) (sym (c .enum-told .given .1)) ∙ kept _ (c .before .before .before .parse .ensures))
-    (λ c. ap (keep _) (sym (c .before .verdict .given .1)) ∙ kept _ (c .before .before .before .before .parse .ensures)))
+    (λ c. ap (keep _) (sym (c .before .verdict .given .1))
+    ∙ kept _ (c .before .before .before .before .parse .ensures)))

@@ -42,10 +42,7 @@ put-listing-spec =
     μ-loop
     (search needs)
     (λ c. rw (c .new .ensures) (at-start _ _ _ (omega arith) (omega arith) (omega arith)))
-    (search needs)
-    (search needs)
-    (search needs)
-    (search needs)
+    (search needs) (search needs) (search needs) (search needs)
     loop-less
     loop-again
     (search needs)

@@ -33,11 +33,8 @@ pub print-paper-spec : {M : Type 1} → statement M
 print-paper-spec =
     tie.close
     (tie.spec
-    (search needs)
-    (search needs)
+    (search needs) (search needs)
     listed
     full
-    (search needs)
-    (search needs)
-    (search needs)
+    (search needs) (search needs) (search needs)
     too-long)

@@ -9,9 +9,13 @@ unfolding letterMaker firstOf known letterOf isLetter pick _=?_
 parse-single-char-spec =
     tie.close
     (tie.spec
-    (λ c. search (in-arm letterMaker)) (λ c. search (in-arm letterMaker)) (λ c. search (in-arm letterMaker)) (λ c. search (in-arm letterMaker))
-    (λ c. search (in-arm letterMaker)) (λ c. search (in-arm letterMaker)) (λ c. search (in-arm letterMaker)) (λ c. search (in-arm letterMaker))
-    (λ c. search (in-arm letterMaker)) (λ c. search (in-arm letterMaker)) (λ c. search (in-arm letterMaker)) (λ c. search (in-arm letterMaker))
-    (λ c. search (in-arm letterMaker)) (λ c. search (in-arm letterMaker)) (λ c. search (in-arm letterMaker)) (λ c. search (in-arm letterMaker))
+    (λ c. search (in-arm letterMaker)) (λ c. search (in-arm letterMaker)) (λ c. search (in-arm letterMaker))
+    (λ c. search (in-arm letterMaker))
+    (λ c. search (in-arm letterMaker)) (λ c. search (in-arm letterMaker)) (λ c. search (in-arm letterMaker))
+    (λ c. search (in-arm letterMaker))
+    (λ c. search (in-arm letterMaker)) (λ c. search (in-arm letterMaker)) (λ c. search (in-arm letterMaker))
+    (λ c. search (in-arm letterMaker))
+    (λ c. search (in-arm letterMaker)) (λ c. search (in-arm letterMaker)) (λ c. search (in-arm letterMaker))
+    (λ c. search (in-arm letterMaker))
     (λ c. search (in-arm letterMaker)) (λ c. search (in-arm letterMaker))
     (λ c. letter-unknown (c .match .rest)))

@@ -7,8 +7,10 @@ use Rattle.manufacturer.proofs.Manufacturer.parse_triple_char.Statement
 use Rattle.manufacturer.proofs.Manufacturer.parse_triple_char.Tie as tie
 
 -- the arm of the number k reads the triple as k's bytes are read
-arm : (c : tie.After-number) {m : Manufacturer} {k : ℕ} → c .number .result ≡ k → m ≡ tripleMaker (tripleBytes k) → m ≡ tripleMaker (c .before .args .triple)
-arm c p q = in-arm tripleMaker (tripleBytes-number _ (search needs) (search needs) ∙ ap tripleBytes (sym (c .number .ensures) ∙ p)) q
+arm : (c : tie.After-number) {m : Manufacturer} {k : ℕ} → c .number .result ≡ k → m ≡ tripleMaker (tripleBytes k) → m
+    ≡ tripleMaker (c .before .args .triple)
+arm c p q = in-arm tripleMaker
+    (tripleBytes-number _ (search needs) (search needs) ∙ ap tripleBytes (sym (c .number .ensures) ∙ p)) q
 
 pub parse-triple-char-spec : {M : Type 1} → statement M
 unfolding tripleMaker firstOf known tripleOf spelt isTriple tripleNumber pick _=?_ _∧?_
@@ -16,8 +18,11 @@ parse-triple-char-spec =
     tie.close
     (tie.spec
     (search needs)
-    (λ c. search (arm)) (λ c. search (arm)) (λ c. search (arm)) (λ c. search (arm)) (λ c. search (arm)) (λ c. search (arm))
-    (λ c. search (arm)) (λ c. search (arm)) (λ c. search (arm)) (λ c. search (arm)) (λ c. search (arm)) (λ c. search (arm))
-    (λ c. search (arm)) (λ c. search (arm)) (λ c. search (arm)) (λ c. search (arm)) (λ c. search (arm)) (λ c. search (arm))
+    (λ c. search (arm)) (λ c. search (arm)) (λ c. search (arm)) (λ c. search (arm)) (λ c. search (arm))
+    (λ c. search (arm))
+    (λ c. search (arm)) (λ c. search (arm)) (λ c. search (arm)) (λ c. search (arm)) (λ c. search (arm))
+    (λ c. search (arm))
+    (λ c. search (arm)) (λ c. search (arm)) (λ c. search (arm)) (λ c. search (arm)) (λ c. search (arm))
+    (λ c. search (arm))
     (λ c. search (arm)) (λ c. search (arm)) (λ c. search (arm)) (λ c. search (arm)) (λ c. search (arm))
     (λ c. triple-unknown (c .before .number .ensures) (c .match .rest)))

@@ -26,7 +26,11 @@ full c = no-room (text-found _ (found (search needs))) (c .before .before .put-p
 
 fits : tie.Need-returns-3
 unfolding partText
-fits c = written (text-found _ (found (search needs))) (c .before .before .before .before .before .before .put-part .ensures) (search needs) (c .before .before .put-part2 .ensures)
+fits c = written (text-found _ (found (search needs)))
+    (c .before .before .before .before .before .before .put-part .ensures) (search needs)
+    (c .before .before .put-part2 .ensures)
 
 pub print-part-spec : {M : Type 1} → statement M
-print-part-spec = tie.close (tie.spec (search needs) (search needs) (search needs) (search needs) (search needs) full (search needs) outside (search needs) fits)
+print-part-spec =
+    tie.close (tie.spec (search needs) (search needs) (search needs) (search needs) (search needs) full (search needs)
+    outside (search needs) fits)

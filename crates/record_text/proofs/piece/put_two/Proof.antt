@@ -6,4 +6,5 @@ use Rattle.record_text.proofs.piece.put_two.Tie as tie
 
 pub put-two-spec : {M : Type 1} → statement M
 unfolding twoMarked
-put-two-spec = tie.close (tie.spec (search needs) (search needs) (search needs) (search needs) (search needs) (λ c. search (then)))
+put-two-spec = tie.close (tie.spec (search needs) (search needs) (search needs) (search needs) (search needs)
+    (λ c. search (then)))

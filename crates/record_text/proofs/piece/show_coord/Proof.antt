@@ -10,4 +10,6 @@ unfolding coordShown
 returns c = let l : tie.After-letter = search needs in rw (← l .letter .ensures) (search (then))
 
 pub show-coord-spec : {M : Type 1} → statement M
-show-coord-spec = tie.close (tie.spec (search needs) (search needs) (search needs) (search needs) (search needs) (search needs) (search needs) returns)
+show-coord-spec =
+    tie.close (tie.spec (search needs) (search needs) (search needs) (search needs) (search needs) (search needs)
+    (search needs) returns)

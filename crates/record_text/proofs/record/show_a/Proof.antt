@@ -13,7 +13,9 @@ returns c =
     let triple = id .before .before .before .before in
     let letter = triple .before .before .before .before .before in
     rw (letter .before .to-single-char .ensures, triple .before .to-triple-char .ensures)
-    at (then (letter .show-letter .ensures) (then (triple .show-triple .ensures) (then (id .show-part .ensures) (extension .show-maybe .ensures))))
+    at (then (letter .show-letter .ensures)
+    (then (triple .show-triple .ensures) (then (id .show-part .ensures) (extension .show-maybe .ensures))))
 
 pub show-a-spec : {M : Type 1} → statement M
-show-a-spec = tie.close (tie.spec (search needs) (search needs) (search needs) (search needs) (search needs) (search needs) (search needs) returns)
+show-a-spec = tie.close (tie.spec (search needs) (search needs) (search needs) (search needs) (search needs)
+    (search needs) (search needs) returns)

@@ -6,4 +6,5 @@ use Rattle.record_text.proofs.record.show_b.Tie as tie
 
 pub show-b-spec : {M : Type 1} → statement M
 unfolding bShown
-show-b-spec = tie.close (tie.spec (search needs) (search needs) (search needs) (search needs) (search needs) (λ c. search (then)))
+show-b-spec = tie.close (tie.spec (search needs) (search needs) (search needs) (search needs) (search needs)
+    (λ c. search (then)))

@@ -6,4 +6,5 @@ use Rattle.record_text.proofs.record.show_declaration.Tie as tie
 
 pub show-declaration-spec : {M : Type 1} → statement M
 unfolding declarationShown
-show-declaration-spec = tie.close (tie.spec (search needs) (search needs) (search needs) (search needs) (search needs) (λ c. search (then)))
+show-declaration-spec =
+    tie.close (tie.spec (search needs) (search needs) (search needs) (search needs) (search needs) (λ c. search (then)))

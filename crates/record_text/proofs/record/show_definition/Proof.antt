@@ -6,4 +6,6 @@ use Rattle.record_text.proofs.record.show_definition.Tie as tie
 
 pub show-definition-spec : {M : Type 1} → statement M
 unfolding definitionShown
-show-definition-spec = tie.close (tie.spec (search needs) (search needs) (search needs) (search needs) (search needs) (search needs) (search needs) (λ c. search (then)))
+show-definition-spec =
+    tie.close (tie.spec (search needs) (search needs) (search needs) (search needs) (search needs) (search needs)
+    (search needs) (λ c. search (then)))

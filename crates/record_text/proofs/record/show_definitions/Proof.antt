@@ -13,7 +13,8 @@ use Rattle.record_text.proofs.record.show_definitions.Tie as tie
 
 -- the first i definitions are written
 abbrev Inv-loop : tie.InvT-loop
-Inv-loop buf₀ at table n next₀ i₀ buf next i = (i ≤ n) × Wrote buf₀ at (texts definitionShown (take i (defsOf table))) buf next
+Inv-loop buf₀ at table n next₀ i₀ buf next i = (i ≤ n) × Wrote buf₀ at (texts definitionShown (take i (defsOf table)))
+    buf next
 
 abbrev μ-loop : tie.MeasureT-loop
 μ-loop buf₀ at table n next₀ i₀ buf next i = n - i
@@ -31,11 +32,15 @@ slot c =
 again : tie.Need-loop-again Inv-loop μ-loop
 again c =
     let o = c .before .before .before .before .before .before in
-    let t = o .before .before .before .args .t3 in
-    (omega arith, in-turn _ (defsOf t) (o .loop .i) (defined t (o .loop .i) (omega arith)) (o .loop .inv .1) (c .before .before .show-definition .ensures))
+    let t = o .before .before .before .args .t3 in (
+      omega arith,
+      in-turn _ (defsOf t) (o .loop .i) (defined t (o .loop .i) (omega arith)) (o .loop .inv .1)
+          (c .before .before .show-definition .ensures),
+    )
 
 ends : tie.Need-returns Inv-loop μ-loop
-ends c = rw (take-all (c .before .loop .i) (defsOf (c .before .before .before .before .args .t3)) (omega arith)) at (c .before .loop .inv .1)
+ends c = rw (take-all (c .before .loop .i) (defsOf (c .before .before .before .before .args .t3)) (omega arith))
+    at (c .before .loop .inv .1)
 
 pub show-definitions-spec : {M : Type 1} → statement M
 show-definitions-spec =
@@ -47,9 +52,7 @@ show-definitions-spec =
     starts
     (λ c. let k = slot c in search needs)
     slot
-    (search needs)
-    (search needs)
-    (search needs)
+    (search needs) (search needs) (search needs)
     again
     (λ c. wrote-length (c .before .loop .inv .1))
     ends)

@@ -23,12 +23,6 @@ pub show-fix-spec : {M : Type 1} → statement M
 show-fix-spec =
     tie.close
     (tie.spec
-    (search needs)
-    (search needs)
-    (search needs)
-    (search needs)
-    (search needs)
-    (search needs)
-    (search needs)
+    (search needs) (search needs) (search needs) (search needs) (search needs) (search needs) (search needs)
     (search needs)
     returns)

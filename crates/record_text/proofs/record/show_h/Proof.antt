@@ -13,7 +13,9 @@ returns c =
     let short = name .before .before .before .before in
     let source = short .before .before .before .before in
     rw (source .before .to-byte .ensures)
-    at (then (source .show-byte .ensures) (then (short .show-part .ensures) (then (name .show-maybe .ensures) (end .show-part2 .ensures))))
+    at (then (source .show-byte .ensures)
+    (then (short .show-part .ensures) (then (name .show-maybe .ensures) (end .show-part2 .ensures))))
 
 pub show-h-spec : {M : Type 1} → statement M
-show-h-spec = tie.close (tie.spec (search needs) (search needs) (search needs) (search needs) (search needs) (search needs) returns)
+show-h-spec = tie.close (tie.spec (search needs) (search needs) (search needs) (search needs) (search needs)
+    (search needs) returns)

@@ -22,7 +22,10 @@ returns c =
     let space = count .before .before .before .before .before in
     let id = space .before .before .before .before in
     rw (toZ-ofZ (count-fits (count .before)))
-    at (then (id .show-number .ensures) (then (space .put-byte .ensures) (then (count .put-i8 .ensures) (name .show-maybe .ensures))))
+    at (then (id .show-number .ensures)
+    (then (space .put-byte .ensures) (then (count .put-i8 .ensures) (name .show-maybe .ensures))))
 
 pub show-task-spec : {M : Type 1} → statement M
-show-task-spec = tie.close (tie.spec (search needs) (search needs) (search needs) (search needs) (search needs) (search needs) returns)
+show-task-spec =
+    tie.close (tie.spec (search needs) (search needs) (search needs) (search needs) (search needs) (search needs)
+    returns)

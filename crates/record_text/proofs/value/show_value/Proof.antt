@@ -13,7 +13,10 @@ returns c =
     let name = sign .before .before .before .before in
     let space = name .before .before .before .before in
     rw (space .before .before .find .ensures)
-    at (then (space .put-byte .ensures) (then (name .put .ensures) (then (sign .put-byte2 .ensures) (found .put-found .ensures))))
+    at (then (space .put-byte .ensures)
+    (then (name .put .ensures) (then (sign .put-byte2 .ensures) (found .put-found .ensures))))
 
 pub show-value-spec : {M : Type 1} → statement M
-show-value-spec = tie.close (tie.spec (search needs) (search needs) (search needs) (search needs) (search needs) (search needs) returns)
+show-value-spec =
+    tie.close (tie.spec (search needs) (search needs) (search needs) (search needs) (search needs) (search needs)
+    returns)

@@ -10,7 +10,8 @@ use Rattle.record_text.proofs.value.show_values.Tie as tie
 
 -- the values of the first i names are written
 abbrev Inv-loop : tie.InvT-loop
-Inv-loop buf₀ at held rest names line n end₀ i₀ buf end i = (i ≤ n) × Wrote buf₀ at (texts (valueShown held rest line) (take i (askedFor held names))) buf end
+Inv-loop buf₀ at held rest names line n end₀ i₀ buf end i =
+    (i ≤ n) × Wrote buf₀ at (texts (valueShown held rest line) (take i (askedFor held names))) buf end
 
 abbrev μ-loop : tie.MeasureT-loop
 μ-loop buf₀ at held rest names line n end₀ i₀ buf end i = n - i
@@ -24,8 +25,11 @@ again c =
     let value = c .before .before in
     let name = value .before .before in
     let o = name .before .before in
-    let a = o .before .before .before .before .before .args in
-    (omega arith, in-turn _ (askedFor (a .held) (now (a .names))) (o .loop .i) (name .asked-at .ensures) (o .loop .inv .1) (value .show-value .ensures))
+    let a = o .before .before .before .before .before .args in (
+      omega arith,
+      in-turn _ (askedFor (a .held) (now (a .names))) (o .loop .i) (name .asked-at .ensures)
+          (o .loop .inv .1) (value .show-value .ensures),
+    )
 
 ends : tie.Need-returns Inv-loop μ-loop
 ends c =
@@ -40,10 +44,7 @@ show-values-spec =
     μ-loop
     (search needs)
     starts
-    (search needs)
-    (search needs)
-    (search needs)
-    (search needs)
+    (search needs) (search needs) (search needs) (search needs)
     again
     (λ c. wrote-length (c .before .loop .inv .1))
     ends)

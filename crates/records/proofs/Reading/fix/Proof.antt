@@ -8,8 +8,6 @@ unfolding answerFix
 fix-spec =
     tie.close
     (tie.spec
-    (search needs)
-    (search needs)
-    (search needs)
+    (search needs) (search needs) (search needs)
     (λ c. rw (c .before .before .self .given .1) (c .fix .ensures))
     (λ c. rw (c .enum-told .given .1)))

@@ -8,9 +8,6 @@ unfolding answerOf
 number-spec =
     tie.close
     (tie.spec
-    (search needs)
-    (search needs)
-    (search needs)
-    (search needs)
+    (search needs) (search needs) (search needs) (search needs)
     (λ c. rw (c .before .before .self .given .1) (c .number .ensures))
     (λ c. rw (c .before .before .self2 .given .1) (c .number2 .ensures)))

@@ -30,7 +30,8 @@ no-count c = came u8Res (c .no-count .given .1) (c .before .before .read-u8 .ens
 
 at-most-99 : (c : tie.After-count) → c .count .given .0 .0 ≤ 99
 unfolding columns cut
-at-most-99 c = two-characters 255 (cut 1 3 (line (search needs))) (simp (length-take, length-drop) (omega arith)) (count c)
+at-most-99 c = two-characters 255 (cut 1 3 (line (search needs))) (simp (length-take, length-drop) (omega arith))
+    (count c)
 
 fits : tie.Need-parse-defs-requires
 fits c κs = (at-most-99 (search needs), simp (length-take, length-drop) (omega arith))
@@ -42,28 +43,28 @@ parse-spec =
     (tie.spec
     (search needs)
     (λ c. c .refused .ensures ∙ ap tableRead (stop _ (no≤ (search needs))))
-    (search needs)
-    (search needs)
-    (search needs)
-    (λ c. c .refused2 .ensures ∙ ap tableRead (pass _ (yes≤ (long (search needs))) (stop _ (so-false (c .before .before .is-table .ensures) (c .before .if2 .taken)))))
-    (search needs)
-    (search needs)
-    (λ c. c .refused3 .ensures ∙ ap tableRead (pass _ (yes≤ (long (search needs))) (pass _ (lettered (search needs)) (stop _ (so-false (c .before .before .is-ascii .ensures) (c .before .if3 .taken))))))
-    (search needs)
-    (search needs)
-    (search needs)
-    (search needs)
-    (search needs)
-    (search needs)
-    (search needs)
-    (search needs)
-    (search needs)
-    (λ c. c .refused4 .ensures ∙ ap tableRead (pass _ (yes≤ (long (search needs))) (pass _ (lettered (search needs)) (pass _ (plain (search needs)) (on _ (count (search needs)) (stop _ (no= (search needs))))))))
-    (search needs)
-    (search needs)
-    (search needs)
+    (search needs) (search needs) (search needs)
+    (λ c. c .refused2 .ensures ∙ ap tableRead
+    (pass _ (yes≤ (long (search needs)))
+    (stop _ (so-false (c .before .before .is-table .ensures) (c .before .if2 .taken)))))
+    (search needs) (search needs)
+    (λ c. c .refused3 .ensures ∙ ap tableRead
+    (pass _ (yes≤ (long (search needs)))
+    (pass _ (lettered (search needs))
+    (stop _ (so-false (c .before .before .is-ascii .ensures) (c .before .if3 .taken))))))
+    (search needs) (search needs) (search needs) (search needs) (search needs) (search needs) (search needs)
+    (search needs) (search needs)
+    (λ c. c .refused4 .ensures ∙ ap tableRead
+    (pass _ (yes≤ (long (search needs)))
+    (pass _ (lettered (search needs))
+    (pass _ (plain (search needs)) (on _ (count (search needs)) (stop _ (no= (search needs))))))))
+    (search needs) (search needs) (search needs)
     fits
-    (search needs)
-    (search needs)
-    (λ c. c .parse-defs .ensures ∙ ap tableRead (pass _ (yes≤ (long (search needs))) (pass _ (lettered (search needs)) (pass _ (plain (search needs)) (on _ (count (search needs)) (pass _ (yes= (search needs)) refl))))))
-    (λ c. c .refused5 .ensures ∙ ap tableRead (pass _ (yes≤ (long (search needs))) (pass _ (lettered (search needs)) (pass _ (plain (search needs)) (off _ (no-count (search needs))))))))
+    (search needs) (search needs)
+    (λ c. c .parse-defs .ensures ∙ ap tableRead
+    (pass _ (yes≤ (long (search needs)))
+    (pass _ (lettered (search needs))
+    (pass _ (plain (search needs)) (on _ (count (search needs)) (pass _ (yes= (search needs)) refl))))))
+    (λ c. c .refused5 .ensures ∙ ap tableRead
+    (pass _ (yes≤ (long (search needs)))
+    (pass _ (lettered (search needs)) (pass _ (plain (search needs)) (off _ (no-count (search needs))))))))

@@ -21,12 +21,14 @@ unfolding tableRead
 bad c =
     let l = c .before .before .before .before .before .before .loop in
     rw (c .before .before .before .before .before .before .before .new .ensures)
-    (ap tableRead (turn-refuses _ _ (l .i) _ (l .inv) (search needs) (came extensionRes (c .before .bad .given .1) (c .before .before .before .parse .ensures))))
+    (ap tableRead (turn-refuses _ _ (l .i) _ (l .inv) (search needs)
+    (came extensionRes (c .before .bad .given .1) (c .before .before .before .parse .ensures))))
 
 loop-again : tie.Need-loop-again Inv-loop μ-loop
 loop-again c =
     let l = c .before .before .before .before .before .before .loop in
-    turn-next _ _ (l .i) _ (l .inv) (search needs) (search needs) (came extensionRes (c .before .def .given .1) (c .before .before .before .parse .ensures))
+    turn-next _ _ (l .i) _ (l .inv) (search needs) (search needs)
+    (came extensionRes (c .before .def .given .1) (c .before .before .before .parse .ensures))
 
 ends : tie.Need-returns-2 Inv-loop μ-loop
 ends c = turn-done _ _ _ _ (c .before .loop .inv) (search needs)
@@ -39,18 +41,10 @@ parse-defs-spec =
     μ-loop
     (search needs)
     loop-holds
-    (search needs)
-    (search needs)
-    (search needs)
-    (search needs)
+    (search needs) (search needs) (search needs) (search needs)
     (λ c. omega (arith, c .before .loop .inv .inside))
-    (search needs)
-    (search needs)
-    (search needs)
-    (search needs)
-    (search needs)
+    (search needs) (search needs) (search needs) (search needs) (search needs)
     bad
-    (search needs)
-    (search needs)
+    (search needs) (search needs)
     loop-again
     ends)

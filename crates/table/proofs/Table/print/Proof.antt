@@ -10,9 +10,9 @@ print-spec =
     tie.close
     (tie.spec
     (λ c. refused _ (stop _ (no≤ (search needs))))
-    (search needs)
-    (search needs)
+    (search needs) (search needs)
     (λ c. no-room (pass _ (yes≤ (search needs)) refl) (c .before .before .put-piece .ensures) (search needs))
-    (search needs)
-    (search needs)
-    (λ c. written (pass _ (yes≤ (search needs)) refl) (c .before .before .before .before .before .before .put-piece .ensures) (search needs) (c .before .before .put-piece2 .ensures)))
+    (search needs) (search needs)
+    (λ c. written (pass _ (yes≤ (search needs)) refl)
+    (c .before .before .before .before .before .before .put-piece .ensures) (search needs)
+    (c .before .before .put-piece2 .ensures)))

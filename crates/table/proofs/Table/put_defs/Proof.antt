@@ -34,4 +34,5 @@ ends c =
 
 pub put-defs-spec : {M : Type 1} → statement M
 put-defs-spec =
-    tie.close (tie.spec Inv-loop μ-loop (search needs) loop-holds (search needs) (search needs) (search needs) (search needs) (search needs) loop-again (λ c. wrote-length (c .before .loop .inv .1)) ends)
+    tie.close (tie.spec Inv-loop μ-loop (search needs) loop-holds (search needs) (search needs) (search needs)
+    (search needs) (search needs) loop-again (λ c. wrote-length (c .before .loop .inv .1)) ends)

@@ -5,4 +5,5 @@ use Rattle.text.proofs.line.begins.Tie as tie
 
 pub begins-spec : {M : Type 1} → statement M
 unfolding begins _=?_
-begins-spec = tie.close (tie.spec (λ c. sym (fails _ (no≤ (omega arith)))) (search needs) (λ c. sym (holds (yes≤ (omega arith)) refl)))
+begins-spec = tie.close
+    (tie.spec (λ c. sym (fails _ (no≤ (omega arith)))) (search needs) (λ c. sym (holds (yes≤ (omega arith)) refl)))

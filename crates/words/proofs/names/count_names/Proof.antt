@@ -17,10 +17,8 @@ count-names-spec =
     μ-loop
     (λ c. (omega arith, refl))
     (λ c κs. (omega arith, omega arith))
-    (search needs)
-    (search needs)
+    (search needs) (search needs)
     (λ c. omega arith)
     (λ c. omega arith)
-    (search needs)
-    (search needs)
+    (search needs) (search needs)
     (search needs))

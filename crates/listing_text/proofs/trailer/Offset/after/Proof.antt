@@ -13,8 +13,9 @@ unfolding forceAfter
 after-spec =
     tie.close
     (tie.spec
-    (search needs)
-    (search needs)
-    (λ c. first _ (i-line (c .before .before)) (first _ (yes= (sym (number-is _ (c .before .number .ensures)) ∙ c .if2 .taken)) refl))
-    (λ c. first _ (i-line (c .before .before)) (second _ (no= (λ e. c .if2 .left (number-is _ (c .before .number .ensures) ∙ e))) refl))
+    (search needs) (search needs)
+    (λ c. first _ (i-line (c .before .before))
+    (first _ (yes= (sym (number-is _ (c .before .number .ensures)) ∙ c .if2 .taken)) refl))
+    (λ c. first _ (i-line (c .before .before))
+    (second _ (no= (λ e. c .if2 .left (number-is _ (c .before .number .ensures) ∙ e))) refl))
     (λ c. second _ (sym (c .before .begins .ensures) ∙ c .if1 .left) refl))

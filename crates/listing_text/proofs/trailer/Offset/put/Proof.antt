@@ -9,11 +9,7 @@ unfolding offsetText plain
 put-spec =
     tie.close
     (tie.spec
-    (search needs)
-    (search needs)
-    (search needs)
-    (search needs)
-    (search needs)
+    (search needs) (search needs) (search needs) (search needs) (search needs)
     (λ c. rw (c .before .before .before .before .enum-told .given .1) (c .before .before .put-byte .ensures))
     (search needs)
     (λ c. rw (c .before .before .before .before .before .self .given .1) (c .before .before .put-nat .ensures)))

@@ -18,14 +18,17 @@ unfolding tallied counted pick
 refused c =
     let asked = c .before .before in
     let after = asked .before .before in
-    first _ (holds (yes≤ (omega arith)) (yes≤ (omega arith))) (rw (sym (asked .is-refusal .ensures) ∙ c .before .if3 .taken, after .after .ensures))
+    first _ (holds (yes≤ (omega arith)) (yes≤ (omega arith)))
+    (rw (sym (asked .is-refusal .ensures) ∙ c .before .if3 .taken, after .after .ensures))
 
 taken : tie.Need-returns-4
 unfolding tallied counted pick
 taken c =
     let asked = c .before in
     let after = asked .before .before in
-    first _ (holds (yes≤ (omega arith)) (yes≤ (omega arith))) (rw (sym (asked .is-refusal .ensures) ∙ c .if3 .left, after .after .ensures, add-zero))
+    first _ (holds (yes≤ (omega arith)) (yes≤ (omega arith)))
+    (rw (sym (asked .is-refusal .ensures) ∙ c .if3 .left, after .after .ensures, add-zero))
 
 pub after-spec : {M : Type 1} → statement M
-after-spec = tie.close (tie.spec lines-full refused-full (search needs) (search needs) (search needs) (search needs) refused taken)
+after-spec = tie.close (tie.spec lines-full refused-full (search needs) (search needs) (search needs) (search needs)
+    refused taken)

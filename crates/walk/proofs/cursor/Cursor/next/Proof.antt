@@ -16,8 +16,7 @@ unfolding nextOf
 next-spec =
     tie.close
     (tie.spec
-    (search needs)
-    (search needs)
+    (search needs) (search needs)
     taken
     (λ c. second _ (holds (yes≤ (omega arith)) (no≤ (omega arith))) refl)
     (λ c. second _ (fails _ (no≤ (omega arith))) refl))
