@@ -1,11 +1,11 @@
 // "Lines": a first byte that is not its own, given to each reader of a line itself; `parse_line` never does that.
-use crate::say;
 use a_record::ARead;
 use a_record::ARecord;
 use c_record::CRecordDeclaration;
 use c_record::CRecordTurnpoint;
 use c_record::DeclarationRead;
 use c_record::TurnpointRead;
+use gate_say as say;
 use h_record::HRead;
 use h_record::HRecord;
 use table::Table;
@@ -52,6 +52,7 @@ fn table(text: &[u8]) {
     }
 }
 
+// Lines whose first byte is not that of their reader.
 pub fn first_bytes() {
     recorder(b"ZFLA123");
     header(b"hFFTYFRTYPE:X");

@@ -1,5 +1,5 @@
 // "Numbers as text" and the edges of heights and counts.
-use crate::say;
+use gate_say as say;
 use part::Part;
 use print::number::put_i8;
 use print::number::put_i16;
@@ -67,6 +67,7 @@ fn answer_i16(text: &[u8]) {
     }
 }
 
+// Numbers without a sign.
 pub fn unsigned() {
     of_u8(b"");
     of_u8(b"+");
@@ -86,6 +87,7 @@ pub fn unsigned() {
     of_u16(b"+0204");
 }
 
+// Numbers with a sign.
 pub fn signed() {
     of_i8(b"-0");
     of_i8(b"04");
@@ -128,6 +130,7 @@ fn put(z: i64, width: usize) {
     say::printed(p, &buf);
 }
 
+// Numbers printed in a width.
 pub fn printed() {
     put(-42, 5);
     put(12, 5);

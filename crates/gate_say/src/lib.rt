@@ -10,6 +10,7 @@ pub fn asked(what: &[u8], text: &[u8]) {
     io::write_all(1, b"` ");
 }
 
+// The refusal's number.
 pub fn refused(no: Refusal) {
     io::print_decimal(1, no.number() as u64);
     io::write_all(1, b"\n");

@@ -1,5 +1,4 @@
 // "Fields": each is read and printed again.
-use crate::say;
 use coord::Compass;
 use coord::LatitudeRead;
 use coord::LongitudeRead;
@@ -14,6 +13,7 @@ use datetime::TimeRead;
 use extension::Extension;
 use extension::ExtensionRead;
 use field::Mnemonic;
+use gate_say as say;
 use manufacturer::Manufacturer;
 use manufacturer::MaybeTriple;
 
@@ -126,6 +126,7 @@ fn maker(letter: u8) {
     io::write_all(1, b"\n");
 }
 
+// Times.
 pub fn times() {
     time(b"10153");
     time(b"1015300");
@@ -139,6 +140,7 @@ pub fn times() {
     time(b"10 530");
 }
 
+// Dates.
 pub fn dates() {
     date(b"000000");
     date(b"311299");
@@ -149,6 +151,7 @@ pub fn dates() {
     date(b"");
 }
 
+// Latitudes and longitudes.
 pub fn coordinates() {
     latitude(b"9160000X");
     latitude(b"9160000N");
@@ -165,6 +168,7 @@ pub fn coordinates() {
     longitude(b"011025\xc3\xa9E");
 }
 
+// Positions.
 pub fn positions() {
     position(b"4712345N0110250");
     position(b"4712345X01102500E");
@@ -173,6 +177,7 @@ pub fn positions() {
     position(b"4712345N01102500E");
 }
 
+// Fields that are made and not read.
 pub fn made() {
     answer_time(Time::from_hms(24, 60, 60));
     answer_time(Time::from_hms(25, 0, 0));
@@ -186,6 +191,7 @@ pub fn made() {
     answer_longitude(RawLongitude::new(181, 0, Compass::West));
 }
 
+// Definitions of extensions.
 pub fn extensions() {
     extension(b"3638FXA");
     extension(b"3636FXA");
