@@ -1,14 +1,14 @@
 -- A lines: the recorder's maker and number.
 use Rattle.text.specs.Prelude.{ℕ, _+_, code, Bool, List, [], _∷_, _++_, length, Res, ok, no, bind, guard, pick, _≤?_}
 use Rattle.text.specs.Prelude.{_=?_, _∧?_, byte, cut, allDigits}
-use Rattle.part.specs.Part.{nameFrom, partText, maybeText}
-use Rattle.text.specs.declared.{refusal.Refusal.the-variants.Syntax, refusal.Refusal.the-variants.NotAscii}
+use Rattle.part.specs.Part.{nameFrom, partText, maybeText, partBytes, maybeBytes}
+use Rattle.text.specs.declared.refusal.Refusal.the-variants.{Syntax, NotAscii}
 use Rattle.part.specs.declared.{Part.Part, MaybePart.MaybePart}
 use Rattle.field.specs.Field.{asciiIn, mnemonicText}
 use Rattle.field.specs.declared.Mnemonic.{Mnemonic}
 use Rattle.manufacturer.specs.Maker.{letterMaker, tripleMaker, tripleOf}
 use Rattle.manufacturer.specs.declared.{Manufacturer.Manufacturer, MaybeTriple.MaybeTriple}
-use Rattle.manufacturer.specs.declared.{MaybeTriple.the-variants.Missing, MaybeTriple.the-variants.Triple}
+use Rattle.manufacturer.specs.declared.MaybeTriple.the-variants.{Missing, Triple}
 use Rattle.a_record.specs.declared.{ARecord.ARecord, ARead.ARead}
 
 -- A record of its three parts.
@@ -56,6 +56,10 @@ tripleText (Triple t) = mnemonicText t
 -- The letter, the triple, id and rest.
 unfoldable pub aBody : ARecord → List ℕ → List ℕ → List ℕ
 aBody r id rest = (code "A" ∷ []) ++ (tripleText (tripleOf (r .manufacturer)) ++ (id ++ rest))
+
+-- The same with the parts that the line has; one that lies outside is left out.
+abbrev pub aPiece : ARecord → List ℕ → List ℕ
+aPiece r s = aBody r (partBytes (r .«unique_id») s) (maybeBytes (r .«id_extension») s)
 
 -- The text of a record beside its line; 9 where a part lies outside.
 unfoldable pub aText : ARecord → List ℕ → Res (List ℕ)

@@ -2,11 +2,11 @@
 ghost use mathlib.Core.Path.{_≡_};
 ghost use Prim.Native.Nat.{_+_, _≤_};
 ghost use lib.ListN.{length};
-ghost use Rattle.part.specs.Part.{findPart, findMaybe, partBytes, maybeBytes, shown, Shows};
+ghost use Rattle.part.specs.Part.{findPart, findMaybe, shown, Shows};
 ghost use Rattle.put.specs.Put.{Wrote};
 ghost use Rattle.print.specs.Print.{Prints};
 ghost use Rattle.manufacturer.specs.Maker.{tripleOf};
-ghost use Rattle.a_record.specs.ARecord.{aNew, aOf, longForm, readTriple, readA, tripleText, aBody, aText, aRes};
+ghost use Rattle.a_record.specs.ARecord.{aNew, aOf, longForm, readTriple, readA, tripleText, aPiece, aText, aRes};
 use field::Mnemonic;
 use field::all_digits;
 use field::is_ascii;
@@ -52,6 +52,7 @@ fn put_triple(buf: &mut [u8], at: usize, m: Manufacturer) -> usize
 }
 
 impl ARecord {
+    // A record of its three parts.
     pub fn new(manufacturer: Manufacturer, id: Part, extension: MaybePart) -> ARecord
         ensures { λ r. ⌜ r ≡ aNew manufacturer id extension ⌝ }
     {
@@ -93,6 +94,7 @@ impl ARecord {
         ARead::Refused(Refusal::NotAscii)
     }
 
+    // Reads an A line, by the letter form where columns 2-7 are digits, and else by a triple.
     pub fn parse(line: &[u8]) -> ARead
         ensures { λ r. ⌜ aRes r ≡ readA (now (line .entry)) ⌝ }
     {
@@ -121,6 +123,7 @@ impl ARecord {
         id.view(line)
     }
 
+    // What stands behind the id, as a part of the caller's own line.
     pub fn id_extension(self, line: &[u8]) -> &[u8]
         ensures { λ r. ⌜ Shows (line .entry) (shown (findMaybe (self .«id_extension») (now (line .entry)))) r ⌝ }
     {
@@ -131,8 +134,7 @@ impl ARecord {
     // The text as a piece of a larger one, from a place on: bytes that are too short cut it, and what lies outside the
     // line is left out. `print` is the printer.
     pub fn put_piece(self, buf: &mut [u8], at: usize, line: &[u8]) -> usize
-        ensures { λ r. ⌜ Wrote (now (buf .entry)) at (aBody self (partBytes (self .«unique_id») (now (line .entry)))
-            (maybeBytes (self .«id_extension») (now (line .entry)))) (now (buf .exit)) r ⌝ }
+        ensures { λ r. ⌜ Wrote (now (buf .entry)) at (aPiece self (now (line .entry))) (now (buf .exit)) r ⌝ }
     {
         let maker = self.manufacturer;
         let id = self.unique_id;
@@ -143,6 +145,7 @@ impl ARecord {
         put_maybe(buf, at_rest, line, rest)
     }
 
+    // Prints the record beside its line.
     pub fn print(self, line: &[u8], buf: &mut [u8]) -> Printed
         ensures { λ r. ⌜ Prints (aText self (now (line .entry))) (now (buf .entry)) (now (buf .exit)) r ⌝ }
     {

@@ -15,9 +15,8 @@ use Rattle.datetime.specs.Three.{readThree}
 use Rattle.datetime.specs.Time.{timeOf, readTime}
 use Rattle.coord.specs.Coord.{lettered, readCoord, readBoth, readPosition, latitude, longitude, latitudeIn, longitudeIn}
 use Rattle.coord.specs.Coord.{latitudeBy, longitudeBy}
-use Rattle.coord.specs.declared.{Compass.Compass, Compass.the-variants.North, Compass.the-variants.South}
-use Rattle.coord.specs.declared.{Compass.the-variants.East, Compass.the-variants.West, RawCoord.RawCoord}
-use Rattle.coord.specs.declared.{RawLatitude.RawLatitude, RawLongitude.RawLongitude}
+use Rattle.coord.specs.declared.{Compass.Compass, RawCoord.RawCoord, RawLatitude.RawLatitude, RawLongitude.RawLongitude}
+use Rattle.coord.specs.declared.Compass.the-variants.{North, South, East, West}
 use Rattle.b_record.specs.BRecord.{readHeights}
 use Rattle.b_quick.specs.Quick.{plainDigits}
 

@@ -8,12 +8,12 @@ use Rattle.field.specs.Field.{sized, asciiIn, ascii, field}
 use Rattle.field.proofs.Digits.{cut-cut}
 use Rattle.datetime.specs.Time.{readTime}
 use Rattle.coord.specs.Coord.{readCoord, latitude, longitude, readBoth, readPosition}
-use Rattle.coord.specs.declared.{Compass.Compass, Compass.the-variants.North, Compass.the-variants.South}
-use Rattle.coord.specs.declared.{Compass.the-variants.East, Compass.the-variants.West}
+use Rattle.coord.specs.declared.Compass.{Compass}
+use Rattle.coord.specs.declared.Compass.the-variants.{North, South, East, West}
 use Rattle.b_record.specs.BRecord.{validOf, readHeights, readFix}
 use Rattle.b_record.specs.declared.BRecord.{BRecord}
 use Rattle.b_quick.specs.Quick.{fixRead}
-use Rattle.b_quick.specs.declared.{Quick.the-variants.Fix, Quick.the-variants.No}
+use Rattle.b_quick.specs.declared.Quick.the-variants.{Fix, No}
 use Rattle.b_quick.proofs.Numbers.{coordAt, latitudeOf, longitudeOf, both-at}
 
 -- ---- answers that refuse

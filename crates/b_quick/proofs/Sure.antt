@@ -4,7 +4,7 @@ use Rattle.text.proofs.Prelude.{arith}
 use Rattle.b_record.specs.BRecord.{readB}
 use Rattle.b_record.specs.declared.BRecord.{BRecord}
 use Rattle.b_quick.specs.Quick.{isPlain, fixRead, quickOf}
-use Rattle.b_quick.specs.declared.{Quick.the-variants.Fix, Quick.the-variants.No}
+use Rattle.b_quick.specs.declared.Quick.the-variants.{Fix, No}
 
 -- only the first of the two can be a fix
 fix-is-read : (t : Bool) (m : Res BRecord) {b : BRecord} → Fix b ≡ pick t (fixRead m) No → ok b ≡ m

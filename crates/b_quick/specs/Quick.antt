@@ -3,7 +3,8 @@ use Rattle.text.specs.Prelude.{ℕ, Bool, List, length, Res, ok, no, pick, _≤
 use Rattle.field.specs.Field.{isAscii}
 use Rattle.b_record.specs.BRecord.{readB}
 use Rattle.b_record.specs.declared.BRecord.{BRecord}
-use Rattle.b_quick.specs.declared.{Quick.Quick, Quick.the-variants.Fix, Quick.the-variants.No}
+use Rattle.b_quick.specs.declared.Quick.{Quick}
+use Rattle.b_quick.specs.declared.Quick.the-variants.{Fix, No}
 
 -- The numbers of a fix have digits alone, by blocks of columns.
 unfoldable pub plainDigits : List ℕ → Bool

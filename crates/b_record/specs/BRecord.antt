@@ -1,15 +1,15 @@
 -- B lines: fixes.
 use Rattle.text.specs.Prelude.{ℕ, code, Bool, List, [], _∷_, _++_, length, Res, ok, no, bind, guard, pick, _≤?_, _=?_}
 use Rattle.text.specs.Prelude.{_∧?_, byte, columns, readInt, signed}
-use Rattle.part.specs.Part.{restFrom, partText}
+use Rattle.part.specs.Part.{restFrom, partText, partBytes}
 use Rattle.text.specs.declared.refusal.Refusal.the-variants.{Syntax}
 use Rattle.field.specs.Field.{ascii}
 use Rattle.datetime.specs.Time.{readTime, timeText, timeBook}
 use Rattle.coord.specs.Coord.{readPosition, positionText, positionBook}
-use Rattle.b_record.specs.declared.{FixValid.FixValid, FixValid.the-variants.Valid}
-use Rattle.b_record.specs.declared.{FixValid.the-variants.NavWarning, ValidRead.ValidRead}
-use Rattle.b_record.specs.declared.{PressureAlt.PressureAlt, GpsAlt.GpsAlt, Heights.Heights}
-use Rattle.b_record.specs.declared.{HeightsRead.HeightsRead, BRecord.BRecord, BRead.BRead}
+use Rattle.b_record.specs.declared.{FixValid.FixValid, ValidRead.ValidRead, PressureAlt.PressureAlt}
+use Rattle.b_record.specs.declared.{GpsAlt.GpsAlt, Heights.Heights, HeightsRead.HeightsRead, BRecord.BRecord}
+use Rattle.b_record.specs.declared.{BRead.BRead}
+use Rattle.b_record.specs.declared.FixValid.the-variants.{Valid, NavWarning}
 
 -- A, V.
 unfoldable pub validLetter : FixValid → ℕ
@@ -62,6 +62,10 @@ tailText r rest =
 -- The letter, time, position, and these.
 unfoldable pub bBody : BRecord → List ℕ → List ℕ
 bBody r rest = (code "B" ∷ []) ++ (timeText (r .timestamp) ++ (positionText (r .pos) ++ tailText r rest))
+
+-- The same with the parts that the line has; one that lies outside is left out.
+abbrev pub bPiece : BRecord → List ℕ → List ℕ
+bPiece r s = bBody r (partBytes (r .rest) s)
 
 -- The text of a record beside its line; 9 where the rest lies outside.
 unfoldable pub bText : BRecord → List ℕ → Res (List ℕ)

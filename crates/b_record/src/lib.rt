@@ -7,7 +7,7 @@ ghost use Rattle.extension.specs.Value.{findValue};
 ghost use Rattle.put.specs.Put.{Wrote};
 ghost use Rattle.print.specs.Print.{Prints};
 ghost use Rattle.b_record.specs.BRecord.{pressureText, gpsText, validLetter, validOf, readHeights, readB};
-ghost use Rattle.b_record.specs.BRecord.{tailText, bBody, bText, bBook, validRes, heightsRes, bRes};
+ghost use Rattle.b_record.specs.BRecord.{tailText, bPiece, bText, bBook, validRes, heightsRes, bRes};
 use coord::position::PositionRead;
 use coord::position::RawPosition;
 use datetime::Time;
@@ -66,6 +66,7 @@ pub enum BRead {
 
 // Where a pressure height comes out as a number, and nowhere else.
 impl PressureAlt {
+    // The one place where the number of a pressure height comes out.
     pub fn put(self, buf: &mut [u8], at: usize, width: usize) -> usize
         ensures { λ r. ⌜ Wrote (now (buf .entry)) at (pressureText width self) (now (buf .exit)) r ⌝ }
     {
@@ -75,6 +76,7 @@ impl PressureAlt {
 
 // The same of a GPS height.
 impl GpsAlt {
+    // The one place where the number of a GPS height comes out.
     pub fn put(self, buf: &mut [u8], at: usize, width: usize) -> usize
         ensures { λ r. ⌜ Wrote (now (buf .entry)) at (gpsText width self) (now (buf .exit)) r ⌝ }
     {
@@ -83,6 +85,7 @@ impl GpsAlt {
 }
 
 impl FixValid {
+    // A or V.
     pub fn letter(self) -> u8
         ensures { λ r. ⌜ r ≡ validLetter self ⌝ }
     {
@@ -92,6 +95,7 @@ impl FixValid {
         }
     }
 
+    // A or V by its letter.
     pub fn from_letter(letter: u8) -> ValidRead
         ensures { λ r. ⌜ validRes r ≡ validOf letter ⌝ }
     {
@@ -103,7 +107,7 @@ impl FixValid {
     }
 }
 
-// The two heights, each in its own column and of its own type. Small, so that a fix goes through no other function.
+// The two heights, each from its own columns and of its own type.
 fn read_heights(line: &[u8]) -> HeightsRead
     requires { ⌜ 35 ≤ length (now line) ⌝ }
     ensures { λ r. ⌜ heightsRes r ≡ readHeights (now (line .entry)) ⌝ }
@@ -124,6 +128,7 @@ fn read_heights(line: &[u8]) -> HeightsRead
 impl BRecord {
     pub const BASE_LENGTH: usize = 35;
 
+    // Reads a B line of at least 35 ASCII bytes.
     pub fn parse(line: &[u8]) -> BRead
         ensures { λ r. ⌜ bRes r ≡ readB (now (line .entry)) ⌝ }
     {
@@ -186,6 +191,7 @@ impl BRecord {
         extension.get_extension(BRecord::BASE_LENGTH, rest, line)
     }
 
+    // Its time and its position are by the book.
     pub fn by_the_book(self) -> bool
         ensures { λ r. ⌜ r ≡ bBook self ⌝ }
     {
@@ -215,8 +221,7 @@ impl BRecord {
     // The text as a piece of a larger one, from a place on: bytes that are too short cut it, and what lies outside the
     // line is left out. `print` is the printer.
     pub fn put_piece(self, buf: &mut [u8], at: usize, line: &[u8]) -> usize
-        ensures { λ r. ⌜ Wrote (now (buf .entry)) at (bBody self (partBytes (self .rest) (now (line .entry))))
-            (now (buf .exit)) r ⌝ }
+        ensures { λ r. ⌜ Wrote (now (buf .entry)) at (bPiece self (now (line .entry))) (now (buf .exit)) r ⌝ }
     {
         let timestamp = self.timestamp;
         let pos = self.pos;
@@ -226,6 +231,7 @@ impl BRecord {
         self.put_tail(buf, at_fix, line)
     }
 
+    // Prints the record beside its line.
     pub fn print(self, line: &[u8], buf: &mut [u8]) -> Printed
         ensures { λ r. ⌜ Prints (bText self (now (line .entry))) (now (buf .entry)) (now (buf .exit)) r ⌝ }
     {

@@ -13,7 +13,8 @@ use Rattle.held.specs.declared.Held.{Held}
 use Rattle.walk.specs.Cursor.{past}
 use Rattle.walk.specs.Walk.{readingOf, stepOf}
 use Rattle.walk.specs.Readings.{Line-read, reader}
-use Rattle.walk.specs.declared.{Walk.Walk, Step.Step, Taken.the-variants.Line, Taken.the-variants.Done}
+use Rattle.walk.specs.declared.{Walk.Walk, Step.Step}
+use Rattle.walk.specs.declared.Taken.the-variants.{Line, Done}
 use Rattle.walk.proofs.Laws.{viewed, step-on}
 
 -- what a walk carries, with a made so far

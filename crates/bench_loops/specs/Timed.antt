@@ -6,8 +6,8 @@ use Rattle.print.specs.Print.{answerTo, leftBy}
 use Rattle.datetime.specs.Time.{secondsOf}
 use Rattle.b_record.specs.declared.BRecord.{BRecord}
 use Rattle.records.specs.Record.{answerPrinted, recordFix, answerFix}
-use Rattle.records.specs.declared.{Record.Record, MaybeFix.MaybeFix, MaybeFix.the-variants.Missing}
-use Rattle.records.specs.declared.{MaybeFix.the-variants.Fix}
+use Rattle.records.specs.declared.{Record.Record, MaybeFix.MaybeFix}
+use Rattle.records.specs.declared.MaybeFix.the-variants.{Missing, Fix}
 use Rattle.held.specs.Held.{lookUp}
 use Rattle.held.specs.declared.Held.{Held}
 use Rattle.log.specs.Log.{readings}
@@ -15,8 +15,8 @@ use Rattle.log.specs.Fold.{over}
 use Rattle.walk.specs.Readings.{Line-read, reader}
 
 -- A sum, as 64 bits hold it.
-unfoldable pub plus : ℕ → ℕ → ℕ
-plus a b = (a + b) % 2 ^ 64
+unfoldable pub summed : ℕ → ℕ → ℕ
+summed a b = (a + b) % 2 ^ 64
 
 -- A height, and 0 where it is below 0.
 unfoldable pub above : ℤ → ℕ
@@ -42,7 +42,7 @@ ofAnswer (no n) = 0
 
 -- Of a value: its length and its first byte.
 unfoldable pub ofValue : List ℕ → ℕ
-ofValue v = plus (length v) (byte 0 v)
+ofValue v = summed (length v) (byte 0 v)
 
 -- Of what a name finds on a fix; where there is none 0.
 unfoldable pub ofNamed : Mnemonic → Held → MaybeFix → List ℕ → ℕ
@@ -50,22 +50,23 @@ ofNamed name h (Fix b) s = ofValue (bytesOf (shown (lookUp 35 (b .rest) h name s
 ofNamed name h Missing s = 0
 
 -- The length that a printer wrote; 0 where it refused.
-unfoldable pub written : Res ℕ → ℕ
-written (ok n) = n
-written (no n) = 0
+unfoldable pub writtenLength : Res ℕ → ℕ
+writtenLength (ok n) = n
+writtenLength (no n) = 0
 
 -- The bytes b became b′ where the text m was printed into them; r is the length written.
 pub record PrintedLine (m : Res (List ℕ)) (b b′ : List ℕ) (r : ℕ) : Type 0 where
-  pub answer : r ≡ written (answerTo m b)
+  pub answer : r ≡ writtenLength (answerTo m b)
   pub left : b′ ≡ leftBy m b
 
 -- ---- a line
 
 unfoldable pub readStep : ℕ → Line-read → ℕ
-readStep n x = plus n (ofAnswer (x .answer))
+readStep n x = summed n (ofAnswer (x .answer))
 
 unfoldable pub lookUpStep : Mnemonic → ℕ → Line-read → ℕ
-lookUpStep name n x = plus (plus n (ofAnswer (x .answer))) (ofNamed name (x .held) (answerFix (x .answer)) (x .line))
+lookUpStep name n x = summed (summed n (ofAnswer (x .answer)))
+    (ofNamed name (x .held) (answerFix (x .answer)) (x .line))
 
 -- The lengths of the texts printed, and the bytes in which each was printed in its turn.
 pub record Out : Type 0 where
@@ -74,7 +75,7 @@ pub record Out : Type 0 where
 
 unfoldable pub printStep : Out → Line-read → Out
 printStep o x = let text = answerPrinted (x .answer) (x .line) in record {
-  sum = plus (o .sum) (written (answerTo text (o .bytes)));
+  sum = summed (o .sum) (writtenLength (answerTo text (o .bytes)));
   bytes = leftBy text (o .bytes);
 }
 

@@ -2,17 +2,16 @@
 use Rattle.text.specs.Prelude.{ℕ, code, Bool, true, List, [], _∷_, _++_, length, replicate, Res, ok, no, bind, guard}
 use Rattle.text.specs.Prelude.{pick, _≤?_, _=?_, _∧?_, _∨?_, byte, cut, columns, readNat, readInt, zeros, padded}
 use Rattle.text.specs.Prelude.{signed}
-use Rattle.part.specs.Part.{nameFrom, maybeText}
+use Rattle.part.specs.Part.{nameFrom, maybeText, maybeBytes}
 use Rattle.text.specs.declared.refusal.Refusal.the-variants.{Syntax}
 use Rattle.field.specs.Field.{asciiIn}
 use Rattle.datetime.specs.Time.{readTime, timeText, timeBook}
 use Rattle.datetime.specs.Date.{readDate, dateText, dateBook}
 use Rattle.coord.specs.Coord.{readPosition, positionText, positionBook}
-use Rattle.c_record.specs.declared.{MaybeDate.MaybeDate, MaybeDate.the-variants.Missing}
-use Rattle.c_record.specs.declared.{MaybeDate.the-variants.On, FlightRead.FlightRead, Task.Task}
-use Rattle.c_record.specs.declared.{TaskRead.TaskRead, CRecordDeclaration.CRecordDeclaration}
-use Rattle.c_record.specs.declared.{DeclarationRead.DeclarationRead, CRecordTurnpoint.CRecordTurnpoint}
-use Rattle.c_record.specs.declared.{TurnpointRead.TurnpointRead}
+use Rattle.c_record.specs.declared.{MaybeDate.MaybeDate, FlightRead.FlightRead, Task.Task, TaskRead.TaskRead}
+use Rattle.c_record.specs.declared.{CRecordDeclaration.CRecordDeclaration, DeclarationRead.DeclarationRead}
+use Rattle.c_record.specs.declared.{CRecordTurnpoint.CRecordTurnpoint, TurnpointRead.TurnpointRead}
+use Rattle.c_record.specs.declared.MaybeDate.the-variants.{Missing, On}
 
 -- N or S at column 8 makes a turnpoint.
 unfoldable pub turns : List ℕ → Bool
@@ -64,6 +63,10 @@ taskText r name = flightText (r .«flight_date»)
 unfoldable pub declarationBody : CRecordDeclaration → List ℕ → List ℕ
 declarationBody r name = (code "C" ∷ []) ++ (dateText (r .date) ++ (timeText (r .time) ++ taskText r name))
 
+-- The same with the parts that the line has; one that lies outside is left out.
+abbrev pub declarationPiece : CRecordDeclaration → List ℕ → List ℕ
+declarationPiece r s = declarationBody r (maybeBytes (r .«task_name») s)
+
 -- The text of a declaration beside its line; 9 where the name lies outside.
 unfoldable pub declarationText : CRecordDeclaration → List ℕ → Res (List ℕ)
 declarationText r s = bind (maybeText (r .«task_name») s) (λ name. ok (declarationBody r name))
@@ -91,6 +94,11 @@ readTurnpoint s =
 unfoldable pub turnpointBody : CRecordTurnpoint → List ℕ → List ℕ
 turnpointBody r name = (code "C" ∷ []) ++ (positionText (r .position) ++ name)
 
+-- The same with the parts that the line has; one that lies outside is left out.
+abbrev pub turnpointPiece : CRecordTurnpoint → List ℕ → List ℕ
+turnpointPiece r s = turnpointBody r (maybeBytes (r .«turnpoint_name») s)
+
+-- The text of a turnpoint beside its line; 9 where the name lies outside.
 unfoldable pub turnpointText : CRecordTurnpoint → List ℕ → Res (List ℕ)
 turnpointText r s = bind (maybeText (r .«turnpoint_name») s) (λ name. ok (turnpointBody r name))
 

@@ -9,7 +9,7 @@ ghost use Rattle.text.specs.Number.{zeros};
 ghost use Rattle.put.specs.Put.{Wrote};
 ghost use Rattle.print.specs.Print.{Prints};
 ghost use Rattle.c_record.specs.CRecord.{turns, readFlight, readTask, readDeclaration, flightText, taskText};
-ghost use Rattle.c_record.specs.CRecord.{declarationBody, declarationText, flightBook, declarationBook};
+ghost use Rattle.c_record.specs.CRecord.{declarationPiece, declarationText, flightBook, declarationBook};
 ghost use Rattle.c_record.specs.CRecord.{flightRes, taskRes, declarationRes};
 use coord::position::RawPosition;
 use datetime::Date;
@@ -148,6 +148,7 @@ fn flight_by_the_book(flight: MaybeDate) -> bool
 }
 
 impl CRecordDeclaration {
+    // Reads a task's declaration.
     pub fn parse(line: &[u8]) -> DeclarationRead
         ensures { λ r. ⌜ declarationRes r ≡ readDeclaration (now (line .entry)) ⌝ }
     {
@@ -193,6 +194,7 @@ impl CRecordDeclaration {
         name.view(line)
     }
 
+    // Its dates and its time are by the book; no flight date passes.
     pub fn by_the_book(self) -> bool
         ensures { λ r. ⌜ r ≡ declarationBook self ⌝ }
     {
@@ -223,8 +225,7 @@ impl CRecordDeclaration {
     // The text as a piece of a larger one, from a place on: bytes that are too short cut it, and what lies outside the
     // line is left out. `print` is the printer.
     pub fn put_piece(self, buf: &mut [u8], at: usize, line: &[u8]) -> usize
-        ensures { λ r. ⌜ Wrote (now (buf .entry))
-            at (declarationBody self (maybeBytes (self .«task_name») (now (line .entry)))) (now (buf .exit)) r ⌝ }
+        ensures { λ r. ⌜ Wrote (now (buf .entry)) at (declarationPiece self (now (line .entry))) (now (buf .exit)) r ⌝ }
     {
         let date = self.date;
         let time = self.time;
@@ -234,6 +235,7 @@ impl CRecordDeclaration {
         self.put_task(buf, at_third, line)
     }
 
+    // Prints the record beside its line.
     pub fn print(self, line: &[u8], buf: &mut [u8]) -> Printed
         ensures { λ r. ⌜ Prints (declarationText self (now (line .entry))) (now (buf .entry)) (now (buf .exit)) r ⌝ }
     {

@@ -1,14 +1,13 @@
 -- Coordinates, and a position: latitude first.
 use Rattle.text.specs.Prelude.{ℕ, _+_, code, Bool, List, [], _∷_, _++_, Res, ok, no, bind, guard, pick, _≤?_, _=?_}
 use Rattle.text.specs.Prelude.{_∧?_, _∨?_, byte, columns, readNat, padded}
-use Rattle.text.specs.declared.{refusal.Refusal.the-variants.Syntax, refusal.Refusal.the-variants.OutOfRange}
+use Rattle.text.specs.declared.refusal.Refusal.the-variants.{Syntax, OutOfRange}
 use Rattle.field.specs.Field.{sized, field}
-use Rattle.coord.specs.declared.{Compass.Compass, Compass.the-variants.North, Compass.the-variants.South}
-use Rattle.coord.specs.declared.{Compass.the-variants.East, Compass.the-variants.West, CompassRead.CompassRead}
-use Rattle.coord.specs.declared.{RawCoord.RawCoord, CoordRead.CoordRead, RawLatitude.RawLatitude}
-use Rattle.coord.specs.declared.{LatitudeRead.LatitudeRead, RawLongitude.RawLongitude}
+use Rattle.coord.specs.declared.{Compass.Compass, CompassRead.CompassRead, RawCoord.RawCoord, CoordRead.CoordRead}
+use Rattle.coord.specs.declared.{RawLatitude.RawLatitude, LatitudeRead.LatitudeRead, RawLongitude.RawLongitude}
 use Rattle.coord.specs.declared.{LongitudeRead.LongitudeRead, position.RawPosition.RawPosition}
 use Rattle.coord.specs.declared.{position.PositionRead.PositionRead}
+use Rattle.coord.specs.declared.Compass.the-variants.{North, South, East, West}
 
 -- N, S, E, W.
 unfoldable pub compassLetter : Compass → ℕ

@@ -8,6 +8,7 @@ use crate::RawLatitude;
 use crate::RawLongitude;
 
 impl RawCoord {
+    // Degrees as a float of 32 bits, negative in the south and the west.
     pub fn to_f32(self) -> f32
         ensures { λ r. ⌜ r ≡ degreesOf binary32 self ⌝ }
     {
@@ -21,6 +22,7 @@ impl RawCoord {
         }
     }
 
+    // The same of 64 bits.
     pub fn to_f64(self) -> f64
         ensures { λ r. ⌜ r ≡ degreesOf binary64 self ⌝ }
     {
@@ -36,12 +38,14 @@ impl RawCoord {
 }
 
 impl RawLatitude {
+    // Degrees as a float of 32 bits, negative in the south.
     pub fn to_f32(self) -> f32
         ensures { λ r. ⌜ r ≡ degreesOf binary32 (self .0) ⌝ }
     {
         self.0.to_f32()
     }
 
+    // The same of 64 bits.
     pub fn to_f64(self) -> f64
         ensures { λ r. ⌜ r ≡ degreesOf binary64 (self .0) ⌝ }
     {
@@ -50,12 +54,14 @@ impl RawLatitude {
 }
 
 impl RawLongitude {
+    // Degrees as a float of 32 bits, negative in the west.
     pub fn to_f32(self) -> f32
         ensures { λ r. ⌜ r ≡ degreesOf binary32 (self .0) ⌝ }
     {
         self.0.to_f32()
     }
 
+    // The same of 64 bits.
     pub fn to_f64(self) -> f64
         ensures { λ r. ⌜ r ≡ degreesOf binary64 (self .0) ⌝ }
     {

@@ -57,6 +57,7 @@ pub enum LongitudeRead {
 }
 
 impl Compass {
+    // N, S, E or W.
     pub fn letter(self) -> u8
         ensures { λ r. ⌜ r ≡ compassLetter self ⌝ }
     {
@@ -172,6 +173,7 @@ impl RawCoord {
         RawCoord::lettered(limit, x, y, degrees, thousandths, text[e])
     }
 
+    // The thousandths are below 60,000.
     pub fn by_the_book(self) -> bool
         ensures { λ r. ⌜ r ≡ coordBook self ⌝ }
     {

@@ -1,7 +1,7 @@
 -- One definition of an extension: SSEEMMM.
 use Rattle.text.specs.Prelude.{ℕ, _+_, List, _++_, length, Res, ok, no, bind, guard, _≤?_, _=?_, _∧?_, byte, columns}
 use Rattle.text.specs.Prelude.{readNat, padded}
-use Rattle.text.specs.declared.{refusal.Refusal.the-variants.Syntax, refusal.Refusal.the-variants.BadExtension}
+use Rattle.text.specs.declared.refusal.Refusal.the-variants.{Syntax, BadExtension}
 use Rattle.field.specs.Field.{mnemonicText}
 use Rattle.field.specs.declared.Mnemonic.{Mnemonic}
 use Rattle.extension.specs.declared.{Extension.Extension, ExtensionRead.ExtensionRead}

@@ -1,8 +1,7 @@
 -- Extension values: the part of a line that a definition names. Starts and ends are columns counted from 1.
 use Rattle.text.specs.Prelude.{ℕ, _+_, _-_, List, Res, ok, bind, guard, _≤?_}
 use Rattle.part.specs.Part.{findPart}
-use Rattle.text.specs.declared.{refusal.Refusal.the-variants.BadExtension}
-use Rattle.text.specs.declared.{refusal.Refusal.the-variants.MissingExtension}
+use Rattle.text.specs.declared.refusal.Refusal.the-variants.{BadExtension, MissingExtension}
 use Rattle.part.specs.declared.Part.{Part}
 use Rattle.extension.specs.declared.Extension.{Extension}
 

@@ -44,6 +44,7 @@ impl Extension {
         ExtensionRead::Refused(Refusal::BadExtension)
     }
 
+    // Reads a definition of seven bytes.
     pub fn parse(text: &[u8]) -> ExtensionRead
         ensures { λ r. ⌜ extensionRes r ≡ readExtension (now (text .entry)) ⌝ }
     {
@@ -68,6 +69,7 @@ impl Extension {
         })
     }
 
+    // The text as a piece, from a place on.
     pub fn put(self, buf: &mut [u8], at: usize) -> usize
         ensures { λ r. ⌜ Wrote (now (buf .entry)) at (extensionText self) (now (buf .exit)) r ⌝ }
     {
@@ -77,6 +79,7 @@ impl Extension {
         mnemonic.put(buf, at_name)
     }
 
+    // Prints it.
     pub fn print(self, buf: &mut [u8]) -> Printed
         ensures { λ r. ⌜ Prints (ok (extensionText self)) (now (buf .entry)) (now (buf .exit)) r ⌝ }
     {

@@ -1,7 +1,7 @@
 -- The three ways in which a field's reading begins.
 use Rattle.text.specs.Prelude.{ℕ, _≡_, true, false, List, length, Res, no, cut, columns}
 use Rattle.text.proofs.Prelude.{pass, stop, yes=, no=}
-use Rattle.text.specs.declared.{refusal.Refusal.the-variants.NotAscii, refusal.Refusal.the-variants.WrongLength}
+use Rattle.text.specs.declared.refusal.Refusal.the-variants.{NotAscii, WrongLength}
 use Rattle.field.specs.Field.{isAscii, sized, asciiIn, ascii, field}
 use Rattle.field.proofs.Ascii.{cut-ascii, known-ascii}
 

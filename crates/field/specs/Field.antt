@@ -1,7 +1,7 @@
 -- What every field is read by: its length, ASCII, and its columns.
-use Rattle.text.specs.Prelude.{ℕ, _-_, Bool, true, List, [], _∷_, _++_, length, take, drop, Res, guard, _≤?_, _=?_}
+use Rattle.text.specs.Prelude.{ℕ, Bool, true, List, [], _∷_, _++_, length, Res, guard, _≤?_, _=?_}
 use Rattle.text.specs.Prelude.{_∧?_}
-use Rattle.text.specs.declared.{refusal.Refusal.the-variants.NotAscii, refusal.Refusal.the-variants.WrongLength}
+use Rattle.text.specs.declared.refusal.Refusal.the-variants.{NotAscii, WrongLength}
 use Rattle.field.specs.declared.Mnemonic.{Mnemonic}
 
 -- Every byte is below 128.

@@ -12,6 +12,7 @@ use put::put_byte;
 pub struct Mnemonic(pub u8, pub u8, pub u8);
 
 impl Mnemonic {
+    // Its three bytes as a piece, from a place on.
     pub fn put(self, buf: &mut [u8], at: usize) -> usize
         ensures { λ r. ⌜ Wrote (now (buf .entry)) at (mnemonicText self) (now (buf .exit)) r ⌝ }
     {

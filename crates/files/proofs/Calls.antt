@@ -9,7 +9,7 @@ use mir.Syntax.{w32, w64}
 use mir.Val.{SFits, Fits, ofZ}
 use borrow.Author.Tests.{ltb-true}
 use Rattle.libc.specs.Io.{Moved}
-use Rattle.files.specs.Call.{isErrno, didOf, Inside}
+use Rattle.files.specs.Call.{isErrno, didOf, NoMoreThan}
 use Rattle.files.specs.declared.call.Did.{Did}
 
 -- the test of errno
@@ -51,14 +51,14 @@ did-bytes (pos zero) e f t h = absurd (h refl)
 did-bytes (pos (suc n)) e f t h = (tt, record { fits = omega (arith, f .sfits) }, refl)
 did-bytes (negsuc n) e f t h = absurd (subst T t tt)
 
-no-bytes : (at : ℕ) (b : List ℕ) (t u : Bool) → Inside at b (pick t Did.Again (pick u Did.Closed Did.Failed))
+no-bytes : (at : ℕ) (b : List ℕ) (t u : Bool) → NoMoreThan at b (pick t Did.Again (pick u Did.Closed Did.Failed))
 unfolding pick
 no-bytes at b true u = tt
 no-bytes at b false true = tt
 no-bytes at b false false = tt
 
 -- no more bytes are moved than were handed over
-pub did-inside : (at n : ℕ) (b : List ℕ) (z e : ℤ) → at + n ≤ length b → Moved n z → Inside at b (didOf z e)
+pub did-inside : (at n : ℕ) (b : List ℕ) (z e : ℤ) → at + n ≤ length b → Moved n z → NoMoreThan at b (didOf z e)
 unfolding didOf
 did-inside at n b (pos zero) e h m = tt
 did-inside at n b (pos (suc k)) e h m = omega (arith, m)

@@ -1,5 +1,5 @@
 -- Lent bytes that are filled by calls of `read`, each behind what came before.
-use Rattle.text.specs.Prelude.{ℕ, _+_, _≤_, _≡_, List, length, take}
+use Rattle.text.specs.Prelude.{ℕ, _≤_, _≡_, List, length, take}
 use Rattle.text.proofs.Prelude.{arith, refl, sym, ap, _∙_}
 use lib.Seq.{take-take}
 use Rattle.files.specs.Input.{CameBehind, FilledBehind, Within}

@@ -1,5 +1,5 @@
 -- A text made visible, byte by byte.
-use Rattle.text.specs.Prelude.{ℕ, _+_, _≤_, _<_, _≡_, List, map, length, drop, getD, set}
+use Rattle.text.specs.Prelude.{ℕ, _+_, _≤_, _<_, _≡_, List, map, length, getD, set}
 use Rattle.text.proofs.Prelude.{arith, refl, sym, ap, _∙_, append-nil, drop-of-length-le, take-all, getD-drop}
 use native.Mathlib.Nat.{zero-add}
 use native.Mathlib.Numerals.{add-one}

@@ -1,6 +1,6 @@
 -- Lent bytes that are filled by calls of `read`. Which bytes these bring no contract says.
 use Rattle.text.specs.Prelude.{ℕ, _≤_, code, _≡_, Bool, List, length, take, _=?_, _∧?_, byte}
-use Rattle.files.specs.Call.{Inside}
+use Rattle.files.specs.Call.{NoMoreThan}
 use Rattle.files.specs.declared.{call.Did.Did, input.Filled.Filled}
 
 -- The name that stands for standard input.
@@ -11,7 +11,7 @@ isDash s = (length s =? 1) ∧? (byte 0 s =? code "-")
 pub record CameBehind (at : ℕ) (b b′ : List ℕ) (r : Did) : Type 0 where
   pub long : length b′ ≡ length b
   pub front : take at b′ ≡ take at b
-  pub room : Inside at b r
+  pub room : NoMoreThan at b r
 
 -- Where the input ended is inside.
 abbrev pub Within : Filled → List ℕ → Type 0

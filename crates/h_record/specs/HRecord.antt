@@ -1,13 +1,12 @@
 -- H lines: headers.
 use Rattle.text.specs.Prelude.{ℕ, suc, _+_, _-_, _/_, _%_, code, List, [], _∷_, _++_, length, drop, Res, ok, no, bind}
 use Rattle.text.specs.Prelude.{guard, pick, _≤?_, _=?_, byte, cut}
-use Rattle.part.specs.Part.{restFrom, partText, maybeText}
+use Rattle.part.specs.Part.{restFrom, partText, maybeText, partBytes, maybeBytes}
 use Rattle.text.specs.declared.refusal.Refusal.the-variants.{Syntax}
 use Rattle.part.specs.declared.MaybePart.{MaybePart}
 use Rattle.field.specs.Field.{asciiIn}
-use Rattle.h_record.specs.declared.{DataSource.DataSource, DataSource.the-variants.FVU}
-use Rattle.h_record.specs.declared.{DataSource.the-variants.OfficialObserver, DataSource.the-variants.Pilot}
-use Rattle.h_record.specs.declared.{DataSource.the-variants.Unrecognized, HRecord.HRecord, HRead.HRead}
+use Rattle.h_record.specs.declared.{DataSource.DataSource, HRecord.HRecord, HRead.HRead}
+use Rattle.h_record.specs.declared.DataSource.the-variants.{FVU, OfficialObserver, Pilot, Unrecognized}
 
 -- The byte of a source.
 unfoldable pub sourceByte : DataSource → ℕ
@@ -72,6 +71,11 @@ dataText r n d = nameText (r .«friendly_name») n ++ d
 -- The letter, source, mnemonic, name and data.
 unfoldable pub hBody : HRecord → List ℕ → List ℕ → List ℕ → List ℕ
 hBody r m n d = (code "H" ∷ []) ++ (charText (sourceByte (r .«data_source»)) ++ (m ++ dataText r n d))
+
+-- The same with the parts that the line has; one that lies outside is left out.
+abbrev pub hPiece : HRecord → List ℕ → List ℕ
+hPiece r s =
+    hBody r (partBytes (r .mnemonic) s) (maybeBytes (r .«friendly_name») s) (partBytes (r .«data») s)
 
 -- The text of a record beside its line; 9 where a part lies outside.
 unfoldable pub hText : HRecord → List ℕ → Res (List ℕ)

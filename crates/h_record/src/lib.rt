@@ -6,7 +6,7 @@ ghost use Rattle.part.specs.Part.{findPart, findMaybe, partBytes, maybeBytes, s
 ghost use Rattle.put.specs.Put.{Wrote};
 ghost use Rattle.print.specs.Print.{Prints};
 ghost use Rattle.h_record.specs.HRecord.{sourceByte, sourceOf, colonIn, readH, charText, nameText, dataText};
-ghost use Rattle.h_record.specs.HRecord.{hBody, hText, hRes};
+ghost use Rattle.h_record.specs.HRecord.{hPiece, hText, hRes};
 use field::is_ascii;
 use part::Found;
 use part::MaybePart;
@@ -36,6 +36,7 @@ pub enum HRead {
 }
 
 impl DataSource {
+    // The source of a byte.
     pub fn from_byte(byte: u8) -> DataSource
         ensures { λ r. ⌜ r ≡ sourceOf byte ⌝ }
     {
@@ -47,6 +48,7 @@ impl DataSource {
         }
     }
 
+    // The byte of a source.
     pub fn to_byte(self) -> u8
         ensures { λ r. ⌜ r ≡ sourceByte self ⌝ }
     {
@@ -100,6 +102,7 @@ fn put_name(buf: &mut [u8], at: usize, name: MaybePart, line: &[u8]) -> usize
 }
 
 impl HRecord {
+    // Reads an H line.
     pub fn parse(line: &[u8]) -> HRead
         ensures { λ r. ⌜ hRes r ≡ readH (now (line .entry)) ⌝ }
     {
@@ -142,6 +145,7 @@ impl HRecord {
         mnemonic.view(line)
     }
 
+    // The name, as a part of the caller's own line.
     pub fn friendly_name(self, line: &[u8]) -> &[u8]
         ensures { λ r. ⌜ Shows (line .entry) (shown (findMaybe (self .«friendly_name») (now (line .entry)))) r ⌝ }
     {
@@ -149,6 +153,7 @@ impl HRecord {
         name.view(line)
     }
 
+    // The data, as a part of the caller's own line.
     pub fn data(self, line: &[u8]) -> &[u8]
         ensures { λ r. ⌜ Shows (line .entry) (shown (findPart (self .«data») (now (line .entry)))) r ⌝ }
     {
@@ -171,9 +176,7 @@ impl HRecord {
     // The text as a piece of a larger one, from a place on: bytes that are too short cut it, and what lies outside the
     // line is left out. `print` is the printer.
     pub fn put_piece(self, buf: &mut [u8], at: usize, line: &[u8]) -> usize
-        ensures { λ r. ⌜ Wrote (now (buf .entry)) at (hBody self (partBytes (self .mnemonic) (now (line .entry)))
-            (maybeBytes (self .«friendly_name») (now (line .entry))) (partBytes (self .«data») (now (line .entry))))
-            (now (buf .exit)) r ⌝ }
+        ensures { λ r. ⌜ Wrote (now (buf .entry)) at (hPiece self (now (line .entry))) (now (buf .exit)) r ⌝ }
     {
         let mnemonic = self.mnemonic;
         let source = self.data_source;
@@ -183,6 +186,7 @@ impl HRecord {
         self.put_data(buf, at_third, line)
     }
 
+    // Prints the record beside its line.
     pub fn print(self, line: &[u8], buf: &mut [u8]) -> Printed
         ensures { λ r. ⌜ Prints (hText self (now (line .entry))) (now (buf .entry)) (now (buf .exit)) r ⌝ }
     {

@@ -1,5 +1,5 @@
 -- What the lines of one letter leave in force, and lookup by name.
-use Rattle.text.specs.Prelude.{ℕ, Bool, true, false, List, [], _∷_, length, Res, ok, no, bind, guard, pick, _≤?_, _=?_}
+use Rattle.text.specs.Prelude.{ℕ, Bool, true, false, List, [], _∷_, Res, ok, no, bind, guard, pick, _≤?_, _=?_}
 use Rattle.text.specs.Prelude.{_∧?_, begins}
 use Rattle.text.specs.declared.refusal.Refusal.the-variants.{NoDefinition}
 use Rattle.part.specs.declared.Part.{Part}
@@ -7,7 +7,8 @@ use Rattle.field.specs.declared.Mnemonic.{Mnemonic}
 use Rattle.table.specs.Table.{tableOf, readTable, defsOf}
 use Rattle.extension.specs.Value.{findValue}
 use Rattle.extension.specs.declared.Extension.{Extension}
-use Rattle.held.specs.declared.{Slot.Slot, Slot.the-variants.Empty, Slot.the-variants.Set, Held.Held}
+use Rattle.held.specs.declared.{Slot.Slot, Held.Held}
+use Rattle.held.specs.declared.Slot.the-variants.{Empty, Set}
 
 -- A table is in force.
 unfoldable pub isSet : Slot → Bool

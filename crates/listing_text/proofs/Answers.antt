@@ -1,7 +1,8 @@
 -- The number of an answer.
 use Rattle.text.specs.Prelude.{ℕ, _≡_}
 use Rattle.records.specs.Record.{answerOf, readingRes}
-use Rattle.records.specs.declared.{Reading.Reading, Reading.the-variants.Accepted, Reading.the-variants.Refused}
+use Rattle.records.specs.declared.Reading.{Reading}
+use Rattle.records.specs.declared.Reading.the-variants.{Accepted, Refused}
 use Rattle.listing_text.specs.Line.{answered}
 
 -- the number that the code has of a reading is its answer's

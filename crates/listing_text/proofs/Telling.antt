@@ -7,7 +7,6 @@ use Rattle.put.proofs.Writing.{then}
 use Rattle.put.proofs.Writing as writing
 use Rattle.records.specs.Record.{readingRes}
 use Rattle.records.specs.declared.Record.{Record}
-use Rattle.log.specs.Log.{readings}
 use Rattle.log.specs.Fold.{texts, fresh, readOn}
 use Rattle.log.proofs.Pieces.{all-read, no-text}
 use Rattle.log.proofs.Reached as fold

@@ -3,8 +3,8 @@ use Rattle.text.specs.Prelude.{ℕ, code, List, [], _∷_, _++_, Res, ok, no, p
 use Rattle.b_record.specs.BRecord.{pressureText, gpsText}
 use Rattle.b_record.specs.declared.BRecord.{BRecord}
 use Rattle.records.specs.Record.{acceptedAs, answerFix}
-use Rattle.records.specs.declared.{Record.Record, MaybeFix.MaybeFix, MaybeFix.the-variants.Missing}
-use Rattle.records.specs.declared.{MaybeFix.the-variants.Fix}
+use Rattle.records.specs.declared.{Record.Record, MaybeFix.MaybeFix}
+use Rattle.records.specs.declared.MaybeFix.the-variants.{Missing, Fix}
 
 -- A number in plain decimal.
 unfoldable pub plain : ℕ → List ℕ

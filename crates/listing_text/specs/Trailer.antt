@@ -4,8 +4,8 @@ use Rattle.text.specs.Prelude.{largest}
 use Rattle.records.specs.declared.Record.{Record}
 use Rattle.walk.specs.Readings.{Line-read}
 use Rattle.listing_text.specs.Line.{plain, answered}
-use Rattle.listing_text.specs.declared.{trailer.Offset.Offset, trailer.Offset.the-variants.Missing}
-use Rattle.listing_text.specs.declared.{trailer.Offset.the-variants.At, trailer.Trailer.Trailer}
+use Rattle.listing_text.specs.declared.{trailer.Offset.Offset, trailer.Trailer.Trailer}
+use Rattle.listing_text.specs.declared.trailer.Offset.the-variants.{Missing, At}
 
 -- An answer from 1 to 5.
 unfoldable pub isRefusal : Res Record → Bool

@@ -46,6 +46,7 @@ impl Offset {
         self
     }
 
+    // The place, or a dash.
     pub fn put(self, buf: &mut [u8], at: usize) -> usize
         ensures { λ r. ⌜ Wrote (now (buf .entry)) at (offsetText self) (now (buf .exit)) r ⌝ }
     {

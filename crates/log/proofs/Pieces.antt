@@ -1,6 +1,6 @@
 -- The law of pieces holds, for every reader of lines and every step.
-use Rattle.text.specs.Prelude.{ℕ, suc, _+_, _≡_, true, List, [], _∷_, _++_, length}
-use Rattle.text.proofs.Prelude.{arith, refl, sym, ap, _∙_, append-nil, append-assoc}
+use Rattle.text.specs.Prelude.{ℕ, _+_, _≡_, true, List, [], _∷_, _++_, length}
+use Rattle.text.proofs.Prelude.{arith, refl, sym, _∙_, append-nil, append-assoc}
 use Rattle.log.specs.Line.{lineText}
 use Rattle.log.specs.Log.{chunks, closed, Reader, LineRead, readFrom, readings}
 use Rattle.log.specs.Fold.{over, texts, Carried, fresh, readOn, pastLine, pastLines, fed}

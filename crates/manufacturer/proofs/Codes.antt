@@ -3,7 +3,8 @@ use Rattle.text.specs.Prelude.{ℕ, _≡_, Bool, true, false, List, [], _∷_, 
 use Rattle.text.proofs.Prelude.{refl, sym, ap, subst, is=, both, never}
 use mathlib.Core.Logic.{_⊎_, inl, inr}
 use Rattle.field.specs.declared.Mnemonic.{Mnemonic}
-use Rattle.manufacturer.specs.Maker.{letterOf, spelt, tripleOf, known, firstOf, isLetter, isTriple, letterMaker}
+use Rattle.manufacturer.specs.Maker.{letterOf, tripleSpelt, tripleOf, known, firstOf, isLetter, isTriple}
+use Rattle.manufacturer.specs.Maker.{letterMaker}
 use Rattle.manufacturer.specs.Maker.{tripleMaker}
 use Rattle.manufacturer.specs.declared.{Manufacturer.Manufacturer, MaybeLetter.MaybeLetter}
 use Rattle.manufacturer.specs.declared.{MaybeTriple.MaybeTriple}
@@ -58,7 +59,7 @@ ByTriple m MaybeTriple.Missing = Unit
 ByTriple m (MaybeTriple.Triple t) = (tripleMaker t ≡ m) ⊎ (m ≡ Manufacturer.UnknownTriple t)
 
 codes : (m : Manufacturer) → ByLetter m (letterOf m) × ByTriple m (tripleOf m)
-unfolding letterOf tripleOf spelt letterMaker tripleMaker firstOf known isLetter isTriple pick _=?_ _∧?_
+unfolding letterOf tripleOf tripleSpelt letterMaker tripleMaker firstOf known isLetter isTriple pick _=?_ _∧?_
 codes Manufacturer.Aircotec = (inl refl, inl refl)
 codes Manufacturer.CambridgeAeroInstruments = (inl refl, inl refl)
 codes Manufacturer.ClearNavInstruments = (tt, inl refl)

@@ -33,34 +33,34 @@ letterOf (Manufacturer.UnknownSingle l) = MaybeLetter.Letter l
 letterOf (Manufacturer.UnknownTriple t) = MaybeLetter.Missing
 
 -- The triple that a text of three characters spells.
-unfoldable pub spelt : String → MaybeTriple
-spelt s = MaybeTriple.Triple (code (charAt s 0), code (charAt s 1), code (charAt s 2))
+unfoldable pub tripleSpelt : String → MaybeTriple
+tripleSpelt s = MaybeTriple.Triple (code (charAt s 0), code (charAt s 1), code (charAt s 2))
 
 -- The triple of a maker that has one.
 unfoldable pub tripleOf : Manufacturer → MaybeTriple
-tripleOf Manufacturer.Aircotec = spelt "ACT"
-tripleOf Manufacturer.CambridgeAeroInstruments = spelt "CAM"
-tripleOf Manufacturer.ClearNavInstruments = spelt "CNI"
-tripleOf Manufacturer.DataSwan = spelt "DSX"
-tripleOf Manufacturer.EwAvionics = spelt "EWA"
-tripleOf Manufacturer.Filser = spelt "FIL"
-tripleOf Manufacturer.Flarm = spelt "FLA"
-tripleOf Manufacturer.Flytech = spelt "FLY"
-tripleOf Manufacturer.Garrecht = spelt "GCS"
-tripleOf Manufacturer.ImiGlidingEquipment = spelt "IMI"
-tripleOf Manufacturer.Logstream = spelt "LGS"
-tripleOf Manufacturer.LxNavigation = spelt "LXN"
-tripleOf Manufacturer.LxNav = spelt "LXV"
-tripleOf Manufacturer.Naviter = spelt "NAV"
-tripleOf Manufacturer.NewTechnologies = spelt "NTE"
-tripleOf Manufacturer.NielsenKellerman = spelt "NKL"
-tripleOf Manufacturer.Peschges = spelt "PES"
-tripleOf Manufacturer.PressFinishElectronics = spelt "PFE"
-tripleOf Manufacturer.PrintTechnik = spelt "PRT"
-tripleOf Manufacturer.Scheffel = spelt "SCH"
-tripleOf Manufacturer.StreamlineDataInstruments = spelt "SDI"
-tripleOf Manufacturer.TriadisEngineering = spelt "TRI"
-tripleOf Manufacturer.Zander = spelt "ZAN"
+tripleOf Manufacturer.Aircotec = tripleSpelt "ACT"
+tripleOf Manufacturer.CambridgeAeroInstruments = tripleSpelt "CAM"
+tripleOf Manufacturer.ClearNavInstruments = tripleSpelt "CNI"
+tripleOf Manufacturer.DataSwan = tripleSpelt "DSX"
+tripleOf Manufacturer.EwAvionics = tripleSpelt "EWA"
+tripleOf Manufacturer.Filser = tripleSpelt "FIL"
+tripleOf Manufacturer.Flarm = tripleSpelt "FLA"
+tripleOf Manufacturer.Flytech = tripleSpelt "FLY"
+tripleOf Manufacturer.Garrecht = tripleSpelt "GCS"
+tripleOf Manufacturer.ImiGlidingEquipment = tripleSpelt "IMI"
+tripleOf Manufacturer.Logstream = tripleSpelt "LGS"
+tripleOf Manufacturer.LxNavigation = tripleSpelt "LXN"
+tripleOf Manufacturer.LxNav = tripleSpelt "LXV"
+tripleOf Manufacturer.Naviter = tripleSpelt "NAV"
+tripleOf Manufacturer.NewTechnologies = tripleSpelt "NTE"
+tripleOf Manufacturer.NielsenKellerman = tripleSpelt "NKL"
+tripleOf Manufacturer.Peschges = tripleSpelt "PES"
+tripleOf Manufacturer.PressFinishElectronics = tripleSpelt "PFE"
+tripleOf Manufacturer.PrintTechnik = tripleSpelt "PRT"
+tripleOf Manufacturer.Scheffel = tripleSpelt "SCH"
+tripleOf Manufacturer.StreamlineDataInstruments = tripleSpelt "SDI"
+tripleOf Manufacturer.TriadisEngineering = tripleSpelt "TRI"
+tripleOf Manufacturer.Zander = tripleSpelt "ZAN"
 tripleOf (Manufacturer.UnknownSingle l) = MaybeTriple.Missing
 tripleOf (Manufacturer.UnknownTriple t) = MaybeTriple.Triple t
 

@@ -55,6 +55,7 @@ fn number(triple: Mnemonic) -> u32
 }
 
 impl Manufacturer {
+    // The maker of a letter; a letter that no maker has is carried.
     pub fn parse_single_char(letter: u8) -> Manufacturer
         ensures { λ r. ⌜ r ≡ letterMaker letter ⌝ }
     {
@@ -81,6 +82,7 @@ impl Manufacturer {
         }
     }
 
+    // The maker of a triple; a triple that no maker has is carried.
     pub fn parse_triple_char(triple: Mnemonic) -> Manufacturer
         ensures { λ r. ⌜ r ≡ tripleMaker triple ⌝ }
     {
@@ -112,6 +114,7 @@ impl Manufacturer {
         }
     }
 
+    // The maker's letter, where it has one.
     pub fn to_single_char(self) -> MaybeLetter
         ensures { λ r. ⌜ r ≡ letterOf self ⌝ }
     {
@@ -144,6 +147,7 @@ impl Manufacturer {
         }
     }
 
+    // The maker's triple, where it has one.
     pub fn to_triple_char(self) -> MaybeTriple
         ensures { λ r. ⌜ r ≡ tripleOf self ⌝ }
     {

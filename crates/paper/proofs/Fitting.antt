@@ -3,7 +3,7 @@ use Rattle.text.specs.Prelude.{ℕ, _≤_, _≡_, List, _++_, length, take, dro
 use Rattle.text.proofs.Prelude.{arith, refl, sym, ap, subst, length-append, take-at, yes≤}
 use Rattle.text.specs.declared.refusal.Refusal.{Refusal}
 use Rattle.print.specs.Print.{answerTo, leftBy, Prints}
-use Rattle.print.specs.declared.{printed.Printed.the-variants.Written, printed.Printed.the-variants.Refused}
+use Rattle.print.specs.declared.printed.Printed.the-variants.{Written, Refused}
 
 abbrev lengthOf : Res ℕ → ℕ
 lengthOf (ok n) = n

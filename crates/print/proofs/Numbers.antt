@@ -6,7 +6,7 @@ use Rattle.text.proofs.Decimal.{length-digits}
 use Rattle.put.specs.Put.{place, Wrote}
 use Rattle.put.proofs.Writing.{sets-snoc, sets-place}
 use Rattle.print.specs.Signed.{splitOf}
-use Rattle.print.specs.declared.{number.Signed.the-variants.Plus, number.Signed.the-variants.Minus}
+use Rattle.print.specs.declared.number.Signed.the-variants.{Plus, Minus}
 
 -- the last of k + 1 digits is written, and then the first k
 pub digit-before : {b b′ : List ℕ} (i k n : ℕ) {j r : ℕ} → j ≡ place (i + k) → Wrote b j ((48 + n % 10) ∷ []) b′ r

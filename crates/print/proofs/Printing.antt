@@ -6,7 +6,7 @@ use lib.Seq.{sets-eq}
 use Rattle.put.specs.Put.{Wrote}
 use Rattle.print.specs.Print.{answerTo, leftBy, Prints}
 use Rattle.text.specs.declared.{refusal.Refusal.Refusal, refusal.Refusal.the-variants.NoRoom}
-use Rattle.print.specs.declared.{printed.Printed.the-variants.Written, printed.Printed.the-variants.Refused}
+use Rattle.print.specs.declared.printed.Printed.the-variants.{Written, Refused}
 
 -- there is no text
 pub refused : {m : Res (List ℕ)} {n : Refusal} (b : List ℕ) → no n ≡ m → Prints m b b (Refused n)

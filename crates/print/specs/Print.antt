@@ -1,8 +1,8 @@
 -- What a printer answers, and what it leaves in the lent bytes: one contract for all of them.
 use Rattle.text.specs.Prelude.{ℕ, _≡_, List, _++_, length, drop, Res, ok, no, bind, guard, pick, _≤?_}
 use Rattle.text.specs.declared.refusal.Refusal.the-variants.{NoRoom}
-use Rattle.print.specs.declared.{printed.Printed.Printed, printed.Printed.the-variants.Written}
-use Rattle.print.specs.declared.{printed.Printed.the-variants.Refused}
+use Rattle.print.specs.declared.printed.Printed.{Printed}
+use Rattle.print.specs.declared.printed.Printed.the-variants.{Written, Refused}
 
 -- The length written: the text's own refusal first, then 10 exactly where the text is longer than the bytes lent.
 unfoldable pub answerTo : Res (List ℕ) → List ℕ → Res ℕ

@@ -7,12 +7,12 @@ use Rattle.walk.specs.Walk as walk
 use Rattle.walk.specs.Readings.{reader}
 use Rattle.listing_text.specs.Trailer.{nothing, countStep}
 use Rattle.listing_text.specs.declared.trailer.Trailer.{Trailer}
-use Rattle.products.specs.Product.{textOf}
+use Rattle.products.specs.Product.{productLineOf}
 use Rattle.products.specs.declared.{Product.Product, Carried.Carried, Fed.Fed}
 
 -- Before the first piece.
-unfoldable pub fresh : Carried
-fresh = record { walk = walk.fresh; trailer = nothing }
+unfoldable pub atFirst : Carried
+atFirst = record { walk = walk.fresh; trailer = nothing }
 
 -- The same as every fold carries it.
 abbrev pub view : Carried → fold.Carried Held Trailer
@@ -29,7 +29,7 @@ isReady c n =
 -- Of a piece s lines are taken into the lent bytes while their text has room; where a count would pass 64 bits, none.
 abbrev pub FedOf : Bool → Product → List ℕ → Carried → List ℕ → List ℕ → List ℕ → Fed → Type 0
 FedOf true p names c s b b′ r =
-    Took reader countStep (textOf p names) (view c) s b b′ (view (r .carried)) (r .taken) (r .end)
+    Took reader countStep (productLineOf p names) (view c) s b b′ (view (r .carried)) (r .taken) (r .end)
 FedOf false p names c s b b′ r = (r ≡ record { carried = c; taken = 0; end = 0 }) × (b′ ≡ b)
 
 abbrev pub Feeds : Product → List ℕ → Carried → List ℕ → List ℕ → List ℕ → Fed → Type 0

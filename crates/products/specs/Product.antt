@@ -9,7 +9,8 @@ use Rattle.listing_text.specs.Line.{listingLine}
 use Rattle.listing_text.specs.Trailer.{nothing, countStep, trailerText}
 use Rattle.listing_text.specs.declared.trailer.Trailer.{Trailer}
 use Rattle.fields_text.specs.Line.{fieldsLine}
-use Rattle.products.specs.declared.{Product.Product, Product.the-variants.Listing, Product.the-variants.Fields}
+use Rattle.products.specs.declared.Product.{Product}
+use Rattle.products.specs.declared.Product.the-variants.{Listing, Fields}
 
 -- Line n with the text s, answered m, at which h is in force, with the names asked for.
 unfoldable pub productLine : Product → List ℕ → ℕ → List ℕ → Res Record → Held → List ℕ
@@ -17,8 +18,8 @@ productLine Listing names n s m h = listingLine n s m
 productLine Fields names n s m h = fieldsLine n s m h names
 
 -- The line of a reading.
-unfoldable pub textOf : Product → List ℕ → Line-read → List ℕ
-textOf p names x = productLine p names (x .number) (x .line) (x .answer) (x .held)
+unfoldable pub productLineOf : Product → List ℕ → Line-read → List ℕ
+productLineOf p names x = productLine p names (x .number) (x .line) (x .answer) (x .held)
 
 -- What closes the text: a listing's trailer.
 unfoldable pub closing : Product → Trailer → List ℕ
@@ -28,4 +29,4 @@ closing Fields t = []
 -- The whole text: a line for each reading of a fresh walk, and what closes it.
 unfoldable pub productText : Product → List ℕ → List ℕ → List ℕ
 productText p names log =
-    texts (textOf p names) (readings reader log) ++ closing p (over countStep nothing (readings reader log))
+    texts (productLineOf p names) (readings reader log) ++ closing p (over countStep nothing (readings reader log))

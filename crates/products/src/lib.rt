@@ -6,7 +6,7 @@ ghost use lib.ListN.{length};
 ghost use Rattle.put.specs.Put.{Wrote};
 ghost use Rattle.records.specs.Record.{readingRes};
 ghost use Rattle.products.specs.Product.{productLine, closing};
-ghost use Rattle.products.specs.Feed.{fresh, isReady, FedOf, Feeds};
+ghost use Rattle.products.specs.Feed.{atFirst, isReady, FedOf, Feeds};
 use held::Held;
 use listing_text::trailer::Trailer;
 use records::Reading;
@@ -122,7 +122,7 @@ fn is_ready(c: Carried, n: usize) -> bool
 
 // Before the first piece.
 pub fn new() -> Carried
-    ensures { λ r. ⌜ r ≡ fresh ⌝ }
+    ensures { λ r. ⌜ r ≡ atFirst ⌝ }
 {
     let walk = Walk::new();
     let trailer = Trailer::new();

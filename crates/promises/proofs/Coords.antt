@@ -6,8 +6,8 @@ use Rattle.text.proofs.Finds.{Finds, finds-ok, finds-no, finds-bind, finds-guar
 use Rattle.coord.specs.Coord.{compassLetter, signOf, coordOf, lettered, readCoord, coordText, latitude, longitude}
 use Rattle.coord.specs.Coord.{latitudeIn, longitudeIn, latitudeText, longitudeText, readBoth, readPosition}
 use Rattle.coord.specs.Coord.{positionText}
-use Rattle.coord.specs.declared.{Compass.Compass, Compass.the-variants.North, Compass.the-variants.South}
-use Rattle.coord.specs.declared.{Compass.the-variants.East, Compass.the-variants.West}
+use Rattle.coord.specs.declared.Compass.{Compass}
+use Rattle.coord.specs.declared.Compass.the-variants.{North, South, East, West}
 use Rattle.promises.specs.Odd.{coordPlus, positionPlus}
 use Rattle.promises.proofs.Columns.{cut-joined, last-byte, finds-columns, finds-sized, finds-field}
 use Rattle.promises.proofs.Copies.{Copy, copy-append, copy-columns, copy-rest, copy-last, finds-copy}

@@ -28,7 +28,7 @@ unfolding
     sized asciiIn ascii field mnemonicText readThree threeText timeOf readTime timeText dateOf readDate dateText
     coord.compassLetter coord.signOf coord.coordOf coord.lettered coord.readCoord coord.coordText coord.latitude
     coord.longitude coord.latitudeIn coord.longitudeIn coord.readBoth coord.readPosition coord.positionText
-    maker.letterOf maker.spelt maker.tripleOf maker.known maker.firstOf maker.isLetter maker.letterMaker
+    maker.letterOf maker.tripleSpelt maker.tripleOf maker.known maker.firstOf maker.isLetter maker.letterMaker
     readDefinition readExtension extensionText tableOf readDefs readBody isTable readTable defsOf defsText tableBody
     tableText tableRead aNew aOf letterForm readA tripleText aBody aText validLetter validOf readHeights readFix
     readB tailText bBody bText turns readFlight readTask readDeclaration flightText taskText declarationBody

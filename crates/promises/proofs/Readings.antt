@@ -27,7 +27,7 @@ unfolding
     bind guard pick _≤?_ _=?_ _∧?_ _∨?_ bytesOf findPart findMaybe textOf partText maybeText restFrom nameFrom isDigit
     allDigits valueFrom readDigits readNat readInt digits placesIn placesOf padded signed zeros isAscii cut columns
     sized asciiIn ascii field mnemonicText readThree threeText timeOf readTime timeText secondsOf dateOf readDate
-    dateText compassLetter signOf coordOf lettered readCoord latitude readLatitude maker.letterOf maker.spelt
+    dateText compassLetter signOf coordOf lettered readCoord latitude readLatitude maker.letterOf maker.tripleSpelt
     maker.tripleOf maker.known maker.firstOf maker.isLetter maker.isTriple maker.letterMaker maker.tripleMaker
     readDefinition readExtension readDefs readBody isTable readTable findValue aNew aOf letterForm longForm
     readTriple readA tripleText aBody aText turns readFlight readTask readDeclaration flightText taskText

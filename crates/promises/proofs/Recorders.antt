@@ -5,7 +5,7 @@ use Rattle.text.proofs.Finds.{Finds, finds-ok, finds-guard, finds-pick}
 use Rattle.field.specs.Field.{asciiIn, mnemonicText}
 use Rattle.manufacturer.specs.Maker.{letterMaker, tripleMaker, tripleOf}
 use Rattle.manufacturer.specs.declared.{Manufacturer.Manufacturer, MaybeTriple.MaybeTriple}
-use Rattle.manufacturer.specs.declared.{MaybeTriple.the-variants.Missing, MaybeTriple.the-variants.Triple}
+use Rattle.manufacturer.specs.declared.MaybeTriple.the-variants.{Missing, Triple}
 use Rattle.manufacturer.proofs.Codes.{triple-read}
 use Rattle.a_record.specs.ARecord.{aNew, aOf, triple, letterForm, longForm, readTriple, readA, tripleText, aBody, aText}
 use Rattle.promises.proofs.Columns.{cut-joined, joined-byte}

@@ -89,9 +89,9 @@ lines-printed names n p h (c ∷ cs) =
     rw (fields-printed (readLine l) next names l refl, lines-printed names (n + 1) (p + length c) next cs)
 
 -- both statements hold
-pub shown : Shown
+pub shown-as-printed : Shown
 unfolding fieldsText readings
-shown = record {
+shown-as-printed = record {
   piece = piece-printed;
   fields = λ names log. lines-printed names 0 0 (reader .start) (chunks log);
 }

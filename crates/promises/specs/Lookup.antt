@@ -1,8 +1,7 @@
 -- The cases in which a lookup by name refuses, and the value that it gives in every other.
 use Rattle.text.specs.Prelude.{ℕ, _+_, _-_, _≤_, _<_, _≡_, true, false, List, length, ok, no}
-use Rattle.text.specs.declared.{refusal.Refusal.Refusal, refusal.Refusal.the-variants.NoDefinition}
-use Rattle.text.specs.declared.{refusal.Refusal.the-variants.OutsideLine, refusal.Refusal.the-variants.BadExtension}
-use Rattle.text.specs.declared.{refusal.Refusal.the-variants.MissingExtension}
+use Rattle.text.specs.declared.refusal.Refusal.{Refusal}
+use Rattle.text.specs.declared.refusal.Refusal.the-variants.{NoDefinition, OutsideLine, BadExtension, MissingExtension}
 use Rattle.part.specs.declared.Part.{Part}
 use Rattle.field.specs.declared.Mnemonic.{Mnemonic}
 use Rattle.table.specs.Table.{defsOf}

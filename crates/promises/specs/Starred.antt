@@ -1,8 +1,7 @@
 -- The starred readings of document 01, "Readings at the edges", one after the other as one list.
 use Rattle.text.specs.Prelude.{_≡_, ok, no, bind, readInt, signed}
 use Rattle.part.specs.Part.{textOf}
-use Rattle.text.specs.declared.{refusal.Refusal.the-variants.Syntax, refusal.Refusal.the-variants.UnreadableNumber}
-use Rattle.text.specs.declared.{refusal.Refusal.the-variants.OutOfRange, refusal.Refusal.the-variants.BadExtension}
+use Rattle.text.specs.declared.refusal.Refusal.the-variants.{Syntax, UnreadableNumber, OutOfRange, BadExtension}
 use Rattle.part.specs.declared.MaybePart.{MaybePart}
 use Rattle.datetime.specs.Time.{readTime, secondsOf}
 use Rattle.coord.specs.Coord.{readLatitude}
@@ -10,7 +9,7 @@ use Rattle.coord.specs.declared.Compass.the-variants.{North}
 use Rattle.manufacturer.specs.declared.Manufacturer.the-variants.{UnknownSingle}
 use Rattle.extension.specs.Value.{findValue}
 use Rattle.c_record.specs.CRecord.{readDeclaration}
-use Rattle.c_record.specs.declared.{MaybeDate.the-variants.Missing, MaybeDate.the-variants.On}
+use Rattle.c_record.specs.declared.MaybeDate.the-variants.{Missing, On}
 use Rattle.h_record.specs.declared.DataSource.the-variants.{FVU}
 use Rattle.records.specs.Record.{readLine, reprinted}
 use Rattle.records.specs.declared.Record.{Record}

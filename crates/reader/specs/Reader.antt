@@ -8,8 +8,8 @@ use Rattle.held.specs.Held.{heldAfter}
 use Rattle.held.specs.declared.Held.{Held}
 use Rattle.walk.specs.Cursor.{nextOf}
 use Rattle.walk.specs.Readings.{Line-read}
-use Rattle.walk.specs.declared.{cursor.Cursor.Cursor, cursor.Next.Next, cursor.Next.the-variants.Line}
-use Rattle.walk.specs.declared.{cursor.Next.the-variants.Done}
+use Rattle.walk.specs.declared.{cursor.Cursor.Cursor, cursor.Next.Next}
+use Rattle.walk.specs.declared.cursor.Next.the-variants.{Line, Done}
 use Rattle.reader.specs.declared.LogReader.{LogReader}
 
 -- A reader of the lent log at a cursor of the walk.

@@ -16,6 +16,7 @@ use part::Part;
 use print::number::put_nat;
 use put::put_byte;
 
+// A number in plain decimal.
 pub fn show_number(buf: &mut [u8], at: usize, n: u64) -> usize
     ensures { λ r. ⌜ Wrote (now (buf .entry)) at (numberShown n) (now (buf .exit)) r ⌝ }
 {
@@ -23,6 +24,7 @@ pub fn show_number(buf: &mut [u8], at: usize, n: u64) -> usize
     put_nat(buf, next, n, 1)
 }
 
+// A byte as it is.
 pub fn show_byte(buf: &mut [u8], at: usize, b: u8) -> usize
     ensures { λ r. ⌜ Wrote (now (buf .entry)) at (byteShown b) (now (buf .exit)) r ⌝ }
 {
@@ -39,6 +41,7 @@ pub fn put_place(buf: &mut [u8], at: usize, p: Part) -> usize
     put_nat(buf, at_len, p.len as u64, 1)
 }
 
+// START+LEN.
 pub fn show_part(buf: &mut [u8], at: usize, p: Part) -> usize
     ensures { λ r. ⌜ Wrote (now (buf .entry)) at (partShown p) (now (buf .exit)) r ⌝ }
 {
@@ -46,6 +49,7 @@ pub fn show_part(buf: &mut [u8], at: usize, p: Part) -> usize
     put_place(buf, next, p)
 }
 
+// The same, or a dash.
 pub fn show_maybe(buf: &mut [u8], at: usize, p: MaybePart) -> usize
     ensures { λ r. ⌜ Wrote (now (buf .entry)) at (maybeShown p) (now (buf .exit)) r ⌝ }
 {
@@ -86,6 +90,7 @@ pub fn show_date(buf: &mut [u8], at: usize, d: Date) -> usize
     show_three(buf, at, b'/', d.day, d.month, d.year)
 }
 
+// A flight date, or a dash.
 pub fn show_flight(buf: &mut [u8], at: usize, flight: MaybeDate) -> usize
     ensures { λ r. ⌜ Wrote (now (buf .entry)) at (flightShown flight) (now (buf .exit)) r ⌝ }
 {

@@ -108,7 +108,8 @@ pub fn show_values(
     line: &[u8],
 ) -> usize
     ensures { λ r. ⌜ Wrote (now (buf .entry))
-        at (texts (valueShown held rest (now (line .entry))) (askedFor held (now (names .entry)))) (now (buf .exit)) r ⌝ }
+        at (texts (valueShown held rest (now (line .entry))) (askedFor held (now (names .entry))))
+        (now (buf .exit)) r ⌝ }
 {
     let n = asked_count(held, names);
     let mut end = at;

@@ -4,7 +4,8 @@ use Rattle.text.proofs.Prelude.{arith, refl, ap}
 use Rattle.text.specs.declared.refusal.Refusal.{Refusal}
 use Rattle.table.specs.Table.{tableRead}
 use Rattle.extension.specs.declared.Extension.{Extension}
-use Rattle.table.specs.declared.{Verdict.the-variants.Accepted, Verdict.the-variants.Refused, TableRead.TableRead}
+use Rattle.table.specs.declared.TableRead.{TableRead}
+use Rattle.table.specs.declared.Verdict.the-variants.{Accepted, Refused}
 
 pub verdict-accepted : {A : Type 0} (a : A) (m : Res (List Extension)) {r : TableRead} → r ≡ tableRead m → r .verdict
     ≡ Accepted → ok a ≡ bind m (λ ds. ok a)

@@ -1,16 +1,16 @@
 -- Lines of every kind: an empty line is 1, then the first byte chooses.
 use Rattle.text.specs.Prelude.{ℕ, code, Bool, true, List, [], length, Res, ok, no, bind, guard, pick, numberOf, _≤?_}
 use Rattle.text.specs.Prelude.{_=?_, _∨?_, byte}
-use Rattle.part.specs.Part.{partText, partBytes, maybeBytes}
+use Rattle.part.specs.Part.{partText, partBytes}
 use Rattle.text.specs.declared.refusal.Refusal.the-variants.{Syntax}
 use Rattle.part.specs.declared.Part.{Part}
 use Rattle.table.specs.Table.{tableOf, readTable, tableBody, tableText, tableRead}
 use Rattle.table.specs.declared.Table.{Table}
-use Rattle.a_record.specs.ARecord.{readA, aBody, aText}
-use Rattle.b_record.specs.BRecord.{readB, bBody, bText, bBook}
-use Rattle.c_record.specs.CRecord.{turns, readDeclaration, declarationBody, declarationText, declarationBook}
-use Rattle.c_record.specs.CRecord.{readTurnpoint, turnpointBody, turnpointText, turnpointBook}
-use Rattle.h_record.specs.HRecord.{readH, hBody, hText}
+use Rattle.a_record.specs.ARecord.{readA, aPiece, aText}
+use Rattle.b_record.specs.BRecord.{readB, bPiece, bText, bBook}
+use Rattle.c_record.specs.CRecord.{turns, readDeclaration, declarationPiece, declarationText, declarationBook}
+use Rattle.c_record.specs.CRecord.{readTurnpoint, turnpointPiece, turnpointText, turnpointBook}
+use Rattle.h_record.specs.HRecord.{readH, hPiece, hText}
 use Rattle.records.specs.declared.{Record.Record, MaybeFix.MaybeFix, Reading.Reading}
 
 -- D, E, F, G, K and L are not taken.
@@ -82,12 +82,11 @@ recordText (Record.Unrecognised p) t s = partText p s
 -- The same as a piece of a larger text: a part that lies outside the line is left out. For a record as it was read that
 -- is its text (promises, `Shown`).
 unfoldable pub recordPiece : Record → Table → List ℕ → List ℕ
-recordPiece (Record.A r) t s = aBody r (partBytes (r .«unique_id») s) (maybeBytes (r .«id_extension») s)
-recordPiece (Record.B r) t s = bBody r (partBytes (r .rest) s)
-recordPiece (Record.CDeclaration r) t s = declarationBody r (maybeBytes (r .«task_name») s)
-recordPiece (Record.CTurnpoint r) t s = turnpointBody r (maybeBytes (r .«turnpoint_name») s)
-recordPiece (Record.H r) t s = hBody r (partBytes (r .mnemonic) s) (maybeBytes (r .«friendly_name») s)
-    (partBytes (r .«data») s)
+recordPiece (Record.A r) t s = aPiece r s
+recordPiece (Record.B r) t s = bPiece r s
+recordPiece (Record.CDeclaration r) t s = declarationPiece r s
+recordPiece (Record.CTurnpoint r) t s = turnpointPiece r s
+recordPiece (Record.H r) t s = hPiece r s
 recordPiece Record.I t s = tableBody (code "I") t
 recordPiece Record.J t s = tableBody (code "J") t
 recordPiece (Record.NotTaken p) t s = partBytes p s

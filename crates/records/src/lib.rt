@@ -104,6 +104,7 @@ fn parse_table(line: &[u8], as_read: Record) -> Reading
 }
 
 impl Record {
+    // Reads a line by its first byte.
     pub fn parse_line(line: &[u8]) -> Reading
         ensures { λ r. ⌜ readingRes r ≡ readLine (now (line .entry)) ⌝ }
     {
@@ -153,7 +154,8 @@ impl Record {
     // Its text as a piece of a larger one, from a place on: bytes that are too short cut it, and a part outside the
     // line is left out. `print` is the printer.
     pub fn put_piece(self, buf: &mut [u8], at: usize, table: Table, line: &[u8]) -> usize
-        ensures { λ r. ⌜ Wrote (now (buf .entry)) at (recordPiece self table (now (line .entry))) (now (buf .exit)) r ⌝ }
+        ensures { λ r. ⌜ Wrote (now (buf .entry)) at (recordPiece self table (now (line .entry)))
+            (now (buf .exit)) r ⌝ }
     {
         match self {
             Record::A(a) => a.put_piece(buf, at, line),
@@ -168,6 +170,7 @@ impl Record {
         }
     }
 
+    // Its times, dates and positions are by the book; other kinds say yes.
     pub fn by_the_book(self) -> bool
         ensures { λ r. ⌜ r ≡ recordBook self ⌝ }
     {
@@ -201,6 +204,7 @@ impl Record {
         }
     }
 
+    // The fix of a B line.
     pub fn fix(self) -> MaybeFix
         ensures { λ r. ⌜ r ≡ recordFix self ⌝ }
     {

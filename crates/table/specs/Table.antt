@@ -1,12 +1,12 @@
 -- The body of I and J lines: a table of up to 99 definitions.
 use Rattle.text.specs.Prelude.{ℕ, zero, suc, _+_, _-_, _*_, code, Bool, List, [], _∷_, _++_, length, take, replicate}
 use Rattle.text.specs.Prelude.{Res, ok, no, bind, guard, _≤?_, _=?_, _∨?_, byte, columns, readNat, padded}
-use Rattle.text.specs.declared.{refusal.Refusal.the-variants.Syntax, refusal.Refusal.the-variants.BadExtension}
+use Rattle.text.specs.declared.refusal.Refusal.the-variants.{Syntax, BadExtension}
 use Rattle.field.specs.Field.{ascii}
 use Rattle.extension.specs.Extension.{readExtension, extensionText}
 use Rattle.extension.specs.declared.Extension.{Extension}
-use Rattle.table.specs.declared.{Table.Table, Verdict.the-variants.Accepted, Verdict.the-variants.Refused}
-use Rattle.table.specs.declared.{TableRead.TableRead}
+use Rattle.table.specs.declared.{Table.Table, TableRead.TableRead}
+use Rattle.table.specs.declared.Verdict.the-variants.{Accepted, Refused}
 
 -- The slot that holds no definition.
 abbrev pub empty : Extension

@@ -160,6 +160,7 @@ impl Table {
         self.put_defs(buf, at_first)
     }
 
+    // Prints an I or a J line.
     pub fn print(self, letter: u8, buf: &mut [u8]) -> Printed
         ensures { λ r. ⌜ Prints (tableText letter self) (now (buf .entry)) (now (buf .exit)) r ⌝ }
     {

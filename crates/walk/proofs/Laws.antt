@@ -5,8 +5,8 @@ use Rattle.text.proofs.Prelude.{arith, refl, sym, ap, _∙_, first, yes≤, is�
 use Rattle.part.specs.Part.{bytesOf, findPart, shown}
 use Rattle.part.proofs.Parts.{shown-found}
 use Rattle.records.specs.Record.{readLine, readingRes}
-use Rattle.records.specs.declared.{Record.Record, Reading.Reading, Reading.the-variants.Accepted}
-use Rattle.records.specs.declared.{Reading.the-variants.Refused}
+use Rattle.records.specs.declared.{Record.Record, Reading.Reading}
+use Rattle.records.specs.declared.Reading.the-variants.{Accepted, Refused}
 use Rattle.log.specs.Line.{cutAt}
 use Rattle.log.specs.declared.Cut.{Cut}
 use Rattle.log.proofs.Cuts.{cut-inside}
@@ -15,7 +15,7 @@ use Rattle.held.specs.declared.Held.{Held}
 use Rattle.walk.specs.Cursor.{past, nextOf}
 use Rattle.walk.specs.Walk.{readingOf, stepTo, stepOf}
 use Rattle.walk.specs.declared.{cursor.Cursor.Cursor, cursor.Next.Next, Walk.Walk, Step.Step}
-use Rattle.walk.specs.declared.{Taken.the-variants.Line, Taken.the-variants.Done}
+use Rattle.walk.specs.declared.Taken.the-variants.{Line, Done}
 
 -- the answer that is viewed as m
 pub reading-is : (r : Reading) {m : Res Record} → readingRes r ≡ m → r ≡ readingOf m

@@ -9,7 +9,8 @@ use Rattle.log.specs.Log.{Reader, LineRead, Letter}
 use Rattle.held.specs.Held.{noTable, setBy, heldAfter}
 use Rattle.held.specs.declared.Held.{Held}
 use Rattle.walk.specs.Walk.{stepOf}
-use Rattle.walk.specs.declared.{Walk.Walk, Taken.Taken, Taken.the-variants.Line, Taken.the-variants.Done}
+use Rattle.walk.specs.declared.{Walk.Walk, Taken.Taken}
+use Rattle.walk.specs.declared.Taken.the-variants.{Line, Done}
 
 -- This reader of lines: the answer to a line with its record, and the table that I lines leave.
 abbrev pub reader : Reader (Res Record) Held

@@ -2,12 +2,12 @@
 use Rattle.text.specs.Prelude.{ℕ, code, List, Res, ok, no}
 use Rattle.part.specs.Part.{bytesOf}
 use Rattle.records.specs.Record.{readLine}
-use Rattle.records.specs.declared.{Record.Record, Reading.Reading, Reading.the-variants.Accepted}
-use Rattle.records.specs.declared.{Reading.the-variants.Refused}
+use Rattle.records.specs.declared.{Record.Record, Reading.Reading}
+use Rattle.records.specs.declared.Reading.the-variants.{Accepted, Refused}
 use Rattle.held.specs.Held.{noTable, heldAfter}
 use Rattle.walk.specs.Cursor.{start, nextOf}
-use Rattle.walk.specs.declared.{cursor.Next.Next, Walk.Walk, Taken.the-variants.Line, Taken.the-variants.Done}
-use Rattle.walk.specs.declared.{Step.Step}
+use Rattle.walk.specs.declared.{cursor.Next.Next, Walk.Walk, Step.Step}
+use Rattle.walk.specs.declared.Taken.the-variants.{Line, Done}
 
 -- Place 0, line number 0, 99 empty slots and no table.
 unfoldable pub fresh : Walk

@@ -16,6 +16,7 @@ pub enum Next {
 }
 
 impl Cursor {
+    // At the log's start.
     pub fn new() -> Cursor
         ensures { λ r. ⌜ r ≡ start ⌝ }
     {

@@ -2,7 +2,7 @@ use Rattle.text.specs.Prelude.{_≡_}
 use Rattle.text.proofs.Prelude.{needs, arith, sym, _∙_}
 use Rattle.put.proofs.Writing.{wrote-nothing}
 use Rattle.manufacturer.specs.Maker.{tripleOf}
-use Rattle.manufacturer.specs.declared.{MaybeTriple.the-variants.Missing, MaybeTriple.the-variants.Triple}
+use Rattle.manufacturer.specs.declared.MaybeTriple.the-variants.{Missing, Triple}
 use Rattle.a_record.specs.ARecord.{tripleText}
 use Rattle.a_record.proofs.put_triple.Statement.{statement}
 use Rattle.a_record.proofs.put_triple.Tie as tie

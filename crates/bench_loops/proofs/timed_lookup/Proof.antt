@@ -1,10 +1,10 @@
-use Rattle.text.specs.Prelude.{ℕ, _-_, _≡_, length}
-use Rattle.text.proofs.Prelude.{needs, arith, refl}
+use Rattle.text.specs.Prelude.{ℕ, _-_, length}
+use Rattle.text.proofs.Prelude.{needs, arith}
 use Rattle.log.specs.Fold.{fresh}
 use Rattle.log.proofs.Reached.{Reached, at-start, product}
 use Rattle.walk.specs.Readings.{reader}
 use Rattle.walk.proofs.Turns.{turn, less-left}
-use Rattle.bench_loops.specs.Timed.{plus, lookUpStep, lookUpSum}
+use Rattle.bench_loops.specs.Timed.{summed, lookUpStep, lookUpSum}
 use Rattle.bench_loops.proofs.timed_lookup.Statement.{statement}
 use Rattle.bench_loops.proofs.timed_lookup.Tie as tie
 
@@ -24,7 +24,7 @@ loop-less c =
     less-left (test .loop-test .taken) (test .before .loop .inv .1) (read .read-at .ensures)
 
 loop-again : tie.Need-loop-again Inv-loop μ-loop
-unfolding lookUpStep plus
+unfolding lookUpStep summed
 loop-again c =
     let named = c .before in
     let fix = named .before in

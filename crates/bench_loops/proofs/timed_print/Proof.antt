@@ -1,7 +1,7 @@
 use Rattle.text.specs.Prelude.{_-_, _≡_, length}
 use Rattle.text.proofs.Prelude.{needs, refl, sym}
 use Rattle.walk.proofs.Turns.{Made, at-start, at-end, line, near}
-use Rattle.bench_loops.specs.Timed.{plus, printStep, printedOut}
+use Rattle.bench_loops.specs.Timed.{summed, printStep, printedOut}
 use Rattle.bench_loops.proofs.timed_print.Statement.{statement}
 use Rattle.bench_loops.proofs.timed_print.Tie as tie
 
@@ -19,7 +19,7 @@ loop-less c =
     near (read .before .loop-test .taken) (read .before .before .loop .inv .0) (read .read-at .ensures)
 
 loop-again : tie.Need-loop-again Inv-loop μ-loop
-unfolding printStep plus
+unfolding printStep summed
 loop-again c =
     let print = c .before .before .before in
     let view = print .before .before in

@@ -5,7 +5,7 @@ use Rattle.log.proofs.Reached.{Reached, at-start, product}
 use Rattle.walk.specs.Cursor.{start}
 use Rattle.walk.specs.Walk as walk
 use Rattle.walk.specs.Readings.{reader}
-use Rattle.bench_loops.specs.Timed.{plus, readStep, readSum}
+use Rattle.bench_loops.specs.Timed.{summed, readStep, readSum}
 use Rattle.bench_loops.proofs.Walking.{carriedBy, not-done, step-read, step-turn, step-nearer}
 use Rattle.bench_loops.proofs.timed_step.Statement.{statement}
 use Rattle.bench_loops.proofs.timed_step.Tie as tie
@@ -36,7 +36,7 @@ loop-less c =
     step-nearer (inv .1) (test .if1 .taken) (inv .0) (step .step .ensures)
 
 loop-again : tie.Need-loop-again Inv-loop μ-loop
-unfolding readStep plus
+unfolding readStep summed
 loop-again c =
     let of = c .before .before in
     let taken = of .before .before in

@@ -1,5 +1,5 @@
 use Rattle.text.specs.Prelude.{now}
-use Rattle.text.proofs.Prelude.{needs, arith, refl, sym, _∙_, never}
+use Rattle.text.proofs.Prelude.{needs, refl, sym, _∙_, never}
 use Rattle.window.specs.Piece.{pieceEnd}
 use Rattle.window.proofs.Wholes.{whole-le}
 use Rattle.stream.proofs.Streaming.{goes-nowhere, goes-last, drained}

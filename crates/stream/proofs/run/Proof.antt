@@ -1,6 +1,6 @@
 use Rattle.text.specs.Prelude.{_-_, _≡_, true, length, largest}
 use Rattle.text.proofs.Prelude.{needs, refl, _∙_}
-use Rattle.products.specs.Feed.{fresh}
+use Rattle.products.specs.Feed.{atFirst}
 use Rattle.files.proofs.Filling.{ended-inside}
 use Rattle.stream.specs.Stream.{Goes}
 use Rattle.stream.proofs.Streaming.{goes-nowhere, goes-last-of, goes-more, goes-on, goes-turned}
@@ -9,14 +9,14 @@ use Rattle.stream.proofs.run.Tie as tie
 
 abbrev Inv-loop : tie.InvT-loop
 Inv-loop product from win₀ names to out₀ carried₀ fill₀ turns₀ win out carried fill turns =
-    Goes fresh carried true × (length win ≡ length win₀) × (length out ≡ length out₀)
+    Goes atFirst carried true × (length win ≡ length win₀) × (length out ≡ length out₀)
 
 abbrev μ-loop : tie.MeasureT-loop
 μ-loop product from win₀ names to out₀ carried₀ fill₀ turns₀ win out carried fill turns = largest - turns
 
 -- one turn more
 turned : (c : tie.After-one-turn Inv-loop μ-loop) →
-    Goes fresh (c .one-turn .result .carried) (c .one-turn .result .more)
+    Goes atFirst (c .one-turn .result .carried) (c .one-turn .result .more)
 turned c =
     let read = c .before .before .before .before .before in
     let loop = read .before .before .before .loop in

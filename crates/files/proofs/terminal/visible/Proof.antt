@@ -1,5 +1,5 @@
 use Rattle.text.specs.Prelude.{_∨?_}
-use Rattle.text.proofs.Prelude.{arith, refl, sym, first, second, yes≤, no≤, yes=, no=, holds, fails}
+use Rattle.text.proofs.Prelude.{refl, sym, first, second, yes≤, no≤, yes=, no=, holds, fails}
 use Rattle.files.specs.Terminal.{visible}
 use Rattle.files.proofs.terminal.visible.Statement.{statement}
 use Rattle.files.proofs.terminal.visible.Tie as tie

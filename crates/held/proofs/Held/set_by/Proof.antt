@@ -2,10 +2,11 @@ use Rattle.text.specs.Prelude.{_≡_, List, Res, ok, no}
 use Rattle.text.proofs.Prelude.{needs, sym, ap, _∙_}
 use Rattle.table.specs.Table.{tableRead}
 use Rattle.extension.specs.declared.Extension.{Extension}
-use Rattle.table.specs.declared.{Table.Table, TableRead.TableRead, Verdict.Verdict, Verdict.the-variants.Accepted}
-use Rattle.table.specs.declared.{Verdict.the-variants.Refused}
+use Rattle.table.specs.declared.{Table.Table, TableRead.TableRead, Verdict.Verdict}
+use Rattle.table.specs.declared.Verdict.the-variants.{Accepted, Refused}
 use Rattle.held.specs.Held.{noTable, setBy}
-use Rattle.held.specs.declared.{Held.Held, Slot.Slot, Slot.the-variants.Empty, Slot.the-variants.Set}
+use Rattle.held.specs.declared.{Held.Held, Slot.Slot}
+use Rattle.held.specs.declared.Slot.the-variants.{Empty, Set}
 use Rattle.held.proofs.Held.set_by.Statement.{statement}
 use Rattle.held.proofs.Held.set_by.Tie as tie
 

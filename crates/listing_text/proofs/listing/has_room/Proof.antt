@@ -1,6 +1,5 @@
 use Rattle.text.specs.Prelude.{ℕ, _+_, _-_, _*_, _/_, _≤_, _≡_, _≤?_}
-use Rattle.text.proofs.Prelude.{needs, arith, sym, _∙_, yes≤, no≤, is≤, isnt≤, tested}
-use native.Mathlib.Nat.{div-add-mod'}
+use Rattle.text.proofs.Prelude.{arith, sym, _∙_, yes≤, no≤, is≤, isnt≤, tested}
 use lib.Dec.{leb}
 use Rattle.log.proofs.Ends.{by-test}
 use Rattle.listing_text.specs.Listing.{roomFor}

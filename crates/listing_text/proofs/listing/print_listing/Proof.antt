@@ -1,7 +1,6 @@
 use Rattle.text.specs.Prelude.{now}
 use Rattle.text.proofs.Prelude.{needs, arith, refl, sym, _∙_, is≤}
 use Rattle.print.proofs.Printing.{no-room, written}
-use Rattle.listing_text.specs.Listing.{HasRoom}
 use Rattle.listing_text.proofs.Room.{has-room}
 use Rattle.listing_text.proofs.listing.print_listing.Statement.{statement}
 use Rattle.listing_text.proofs.listing.print_listing.Tie as tie

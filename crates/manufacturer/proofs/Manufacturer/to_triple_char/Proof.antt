@@ -1,11 +1,11 @@
 use Rattle.text.proofs.Prelude.{needs, refl}
-use Rattle.manufacturer.specs.Maker.{tripleOf, spelt}
+use Rattle.manufacturer.specs.Maker.{tripleOf, tripleSpelt}
 use Rattle.manufacturer.proofs.Arms.{in-arm}
 use Rattle.manufacturer.proofs.Manufacturer.to_triple_char.Statement.{statement}
 use Rattle.manufacturer.proofs.Manufacturer.to_triple_char.Tie as tie
 
 pub to-triple-char-spec : {M : Type 1} → statement M
-unfolding tripleOf spelt
+unfolding tripleOf tripleSpelt
 to-triple-char-spec =
     tie.close
     (tie.spec

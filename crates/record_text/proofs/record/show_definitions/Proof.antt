@@ -1,5 +1,5 @@
 use Rattle.text.specs.Prelude.{_-_, _≤_, _<_, _≡_, length, take}
-use Rattle.text.proofs.Prelude.{needs, arith, refl, take-all}
+use Rattle.text.proofs.Prelude.{needs, arith, take-all}
 use Rattle.put.specs.Put.{Wrote}
 use Rattle.put.proofs.Writing.{wrote-length, wrote-nothing}
 use Rattle.log.specs.Fold.{texts}
@@ -7,7 +7,7 @@ use Rattle.table.specs.Table.{defsOf}
 use Rattle.table.proofs.Defs.{long-under}
 use Rattle.record_text.specs.Record.{definitionShown}
 use Rattle.record_text.proofs.Rows.{in-turn}
-use Rattle.record_text.proofs.Names.{count-defs, defined}
+use Rattle.record_text.proofs.Names.{count-defs, definition-at}
 use Rattle.record_text.proofs.record.show_definitions.Statement.{statement}
 use Rattle.record_text.proofs.record.show_definitions.Tie as tie
 
@@ -34,7 +34,7 @@ again c =
     let o = c .before .before .before .before .before .before in
     let t = o .before .before .before .args .t3 in (
       omega arith,
-      in-turn _ (defsOf t) (o .loop .i) (defined t (o .loop .i) (omega arith)) (o .loop .inv .1)
+      in-turn _ (defsOf t) (o .loop .i) (definition-at t (o .loop .i) (omega arith)) (o .loop .inv .1)
           (c .before .before .show-definition .ensures),
     )
 

@@ -1,4 +1,4 @@
-use Rattle.text.specs.Prelude.{ℕ, _-_, _≤_, take, now}
+use Rattle.text.specs.Prelude.{_-_, _≤_, take, now}
 use Rattle.text.proofs.Prelude.{needs, arith, take-all}
 use Rattle.put.specs.Put.{Wrote}
 use Rattle.put.proofs.Writing.{wrote-length, wrote-nothing}

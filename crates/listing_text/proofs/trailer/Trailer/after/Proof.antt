@@ -1,4 +1,4 @@
-use Rattle.text.specs.Prelude.{_≡_, pick}
+use Rattle.text.specs.Prelude.{pick}
 use Rattle.text.proofs.Prelude.{needs, arith, refl, sym, _∙_, first, second, yes≤, no≤, holds, fails}
 use native.Mathlib.Nat.{add-zero}
 use Rattle.listing_text.specs.Trailer.{counted, tallied}
