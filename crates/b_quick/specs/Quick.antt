@@ -9,8 +9,8 @@ use Rattle.b_quick.specs.declared.Quick.the-variants.{Fix, No}
 -- The numbers of a fix have digits alone, by blocks of columns.
 unfoldable pub plainDigits : List ℕ → Bool
 plainDigits s =
-    allDigits (cut 1 9 s) ∧? allDigits (cut 6 14 s) ∧? allDigits (cut 15 23 s) ∧? allDigits (cut 25 33 s) ∧? allDigits
-    (cut 27 35 s)
+    allDigits (cut 1 9 s) ∧? allDigits (cut 6 14 s) ∧? allDigits (cut 15 23 s) ∧? allDigits (cut 25 33 s)
+    ∧? allDigits (cut 27 35 s)
 
 -- A line that the quick way takes: long enough, ASCII, and of plain digits.
 unfoldable pub isPlain : List ℕ → Bool

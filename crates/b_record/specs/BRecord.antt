@@ -47,10 +47,11 @@ readFix s =
 unfoldable pub readB : List ℕ → Res BRecord
 readB s = guard (35 ≤? length s) Syntax (ascii readFix s)
 
--- A height as text, in a width.
+-- A pressure height as text, in a width.
 abbrev pub pressureText : ℕ → PressureAlt → List ℕ
 pressureText width h = signed width (h .0)
 
+-- A GPS height as text, in a width.
 abbrev pub gpsText : ℕ → GpsAlt → List ℕ
 gpsText width h = signed width (h .0)
 

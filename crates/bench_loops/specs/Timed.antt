@@ -61,9 +61,11 @@ pub record PrintedLine (m : Res (List ℕ)) (b b′ : List ℕ) (r : ℕ) : Type
 
 -- ---- a line
 
+-- One reading more in the sum of answers.
 unfoldable pub readStep : ℕ → Line-read → ℕ
 readStep n x = summed n (ofAnswer (x .answer))
 
+-- The same, with the value of a name on fixes.
 unfoldable pub lookUpStep : Mnemonic → ℕ → Line-read → ℕ
 lookUpStep name n x = summed (summed n (ofAnswer (x .answer)))
     (ofNamed name (x .held) (answerFix (x .answer)) (x .line))
@@ -73,6 +75,7 @@ pub record Out : Type 0 where
   pub sum : ℕ
   pub bytes : List ℕ
 
+-- One reading more printed, and its length in the sum.
 unfoldable pub printStep : Out → Line-read → Out
 printStep o x = let text = answerPrinted (x .answer) (x .line) in record {
   sum = summed (o .sum) (writtenLength (answerTo text (o .bytes)));
@@ -81,11 +84,14 @@ printStep o x = let text = answerPrinted (x .answer) (x .line) in record {
 
 -- ---- a log
 
+-- The sum over a log's answers.
 unfoldable pub readSum : List ℕ → ℕ
 readSum log = over readStep 0 (readings reader log)
 
+-- The sum over a log's answers and values.
 unfoldable pub lookUpSum : Mnemonic → List ℕ → ℕ
 lookUpSum name log = over (lookUpStep name) 0 (readings reader log)
 
+-- What printing a log comes to.
 unfoldable pub printedOut : List ℕ → List ℕ → Out
 printedOut log b = over printStep (record { sum = 0; bytes = b }) (readings reader log)

@@ -50,6 +50,7 @@ readDeclaration s =
       «task_name» = nameFrom 25 s;
     }))))))))
 
+-- A flight date; six zeros for none.
 unfoldable pub flightText : MaybeDate → List ℕ
 flightText Missing = replicate 6 (code "0")
 flightText (On d) = dateText d
@@ -76,6 +77,7 @@ unfoldable pub flightBook : MaybeDate → Bool
 flightBook Missing = true
 flightBook (On d) = dateBook d
 
+-- By the book: its dates and its time are.
 unfoldable pub declarationBook : CRecordDeclaration → Bool
 declarationBook r = dateBook (r .date) ∧? timeBook (r .time) ∧? flightBook (r .«flight_date»)
 
@@ -102,6 +104,7 @@ turnpointPiece r s = turnpointBody r (maybeBytes (r .«turnpoint_name») s)
 unfoldable pub turnpointText : CRecordTurnpoint → List ℕ → Res (List ℕ)
 turnpointText r s = bind (maybeText (r .«turnpoint_name») s) (λ name. ok (turnpointBody r name))
 
+-- By the book: its position is.
 unfoldable pub turnpointBook : CRecordTurnpoint → Bool
 turnpointBook r = positionBook (r .position)
 

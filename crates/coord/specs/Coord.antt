@@ -54,9 +54,11 @@ coordBook c = c .«minute_thousandths» ≤? 59999
 
 -- ---- latitude and longitude, which are types apart
 
+-- A coordinate that is a latitude.
 unfoldable pub latitude : Res RawCoord → Res RawLatitude
 latitude m = bind m (λ c. ok (record { 0 = c }))
 
+-- A coordinate that is a longitude.
 unfoldable pub longitude : Res RawCoord → Res RawLongitude
 longitude m = bind m (λ c. ok (record { 0 = c }))
 
@@ -72,6 +74,7 @@ readLongitude s = longitude (field 9 (readCoord 3 180 East West) s)
 unfoldable pub latitudeIn : List ℕ → Res RawLatitude
 latitudeIn s = latitude (sized 8 (readCoord 2 90 North South) s)
 
+-- The same of nine bytes, a longitude.
 unfoldable pub longitudeIn : List ℕ → Res RawLongitude
 longitudeIn s = longitude (sized 9 (readCoord 3 180 East West) s)
 
@@ -79,18 +82,23 @@ longitudeIn s = longitude (sized 9 (readCoord 3 180 East West) s)
 unfoldable pub latitudeBy : ℕ → ℕ → ℕ → Res RawLatitude
 latitudeBy g t l = latitude (lettered 90 North South g t l)
 
+-- The same of a longitude.
 unfoldable pub longitudeBy : ℕ → ℕ → ℕ → Res RawLongitude
 longitudeBy g t l = longitude (lettered 180 East West g t l)
 
+-- A latitude that is made: to 90 degrees, N or S.
 unfoldable pub newLatitude : ℕ → ℕ → Compass → Res RawLatitude
 newLatitude g t sign = latitude (newCoord 90 North South g t sign)
 
+-- A longitude that is made: to 180 degrees, E or W.
 unfoldable pub newLongitude : ℕ → ℕ → Compass → Res RawLongitude
 newLongitude g t sign = longitude (newCoord 180 East West g t sign)
 
+-- Degrees in width 2, thousandths, letter.
 abbrev pub latitudeText : RawLatitude → List ℕ
 latitudeText l = coordText 2 (l .0)
 
+-- Degrees in width 3, thousandths, letter.
 abbrev pub longitudeText : RawLongitude → List ℕ
 longitudeText l = coordText 3 (l .0)
 
@@ -111,9 +119,11 @@ readPosition = field 17 readBoth
 unfoldable pub positionIn : List ℕ → Res RawPosition
 positionIn = sized 17 readBoth
 
+-- The latitude's text, then the longitude's.
 unfoldable pub positionText : RawPosition → List ℕ
 positionText p = latitudeText (p .lat) ++ longitudeText (p .lon)
 
+-- By the book: both coordinates are.
 unfoldable pub positionBook : RawPosition → Bool
 positionBook p = coordBook (p .lat .0) ∧? coordBook (p .lon .0)
 

@@ -29,6 +29,7 @@ newDate d m y =
     guard (dated d m ∧? (y ≤? 99)) OutOfRange
     (ok (record { day = d; month = m; year = y }))
 
+-- Day, month and year, in width 2 each.
 unfoldable pub dateText : Date → List ℕ
 dateText d = threeText (d .day) (d .month) (d .year)
 

@@ -19,9 +19,11 @@ readTime = field 6 (readThree timeOf)
 unfoldable pub timeIn : List ℕ → Res Time
 timeIn = sized 6 (readThree timeOf)
 
+-- Hours, minutes and seconds, in width 2 each.
 unfoldable pub timeText : Time → List ℕ
 timeText t = threeText (t .hours) (t .minutes) (t .seconds)
 
+-- Seconds since midnight, of any three numbers.
 unfoldable pub secondsOf : Time → ℕ
 secondsOf t = t .hours * 3600 + t .minutes * 60 + t .seconds
 

@@ -6,8 +6,7 @@ use Rattle.part.specs.declared.Part.{Part}
 use Rattle.extension.specs.declared.Extension.{Extension}
 
 -- With a base of so many columns: a rest outside the line is 9; then a start of at most the base, or an end before the
--- start,
--- is 5; an end that exceeds the rest is 6; else the part of the rest from start - (base + 1) up to end - base.
+-- start, is 5; an end that exceeds the rest is 6; else the part of the rest from start - (base + 1) up to end - base.
 unfoldable pub findValue : ℕ → Part → Extension → List ℕ → Res Part
 findValue base rest e s =
     bind (findPart rest s) (λ r.
@@ -16,6 +15,5 @@ findValue base rest e s =
     (guard (e .«end_byte» - base ≤? r .len) MissingExtension
     (ok (record {
       start = r .start + (e .«start_byte» - (base + 1));
-      len = (e .«end_byte» - base) -
-          (e .«start_byte» - (base + 1));
+      len = (e .«end_byte» - base) - (e .«start_byte» - (base + 1));
     })))))

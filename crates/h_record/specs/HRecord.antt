@@ -35,15 +35,13 @@ named s c =
     (record {
       «data_source» = sourceOf (byte 1 s);
       mnemonic = record { start = 2; len = 3 };
-      «friendly_name» =
-          MaybePart.Missing;
+      «friendly_name» = MaybePart.Missing;
       «data» = restFrom 5 s;
     })
     (record {
       «data_source» = sourceOf (byte 1 s);
       mnemonic = record { start = 2; len = 3 };
-      «friendly_name» =
-          MaybePart.At (record { start = 5; len = c - 5 });
+      «friendly_name» = MaybePart.At (record { start = 5; len = c - 5 });
       «data» = restFrom (c + 1) s;
     })
 

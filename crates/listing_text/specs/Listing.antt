@@ -14,6 +14,7 @@ lineOf x = listingLine (x .number) (x .line) (x .answer)
 unfoldable pub listed : List Line-read → List ℕ
 listed xs = texts lineOf xs ++ trailerText (over countStep nothing xs)
 
+-- The listing of a log.
 unfoldable pub listingText : List ℕ → List ℕ
 listingText log = listed (readings reader log)
 

@@ -38,6 +38,7 @@ countStep t x = counted t (x .place) (x .line) (x .answer)
 
 -- ---- its text
 
+-- The place, or a dash for none.
 unfoldable pub offsetText : Offset → List ℕ
 offsetText Missing = code "-" ∷ []
 offsetText (At p) = plain p
@@ -46,5 +47,6 @@ offsetText (At p) = plain p
 unfoldable pub figures : Trailer → List ℕ
 figures t = (code " " ∷ []) ++ (plain (t .lines) ++ ((code " " ∷ []) ++ plain (t .refused)))
 
+-- T, the counts, the place, and an LF.
 unfoldable pub trailerText : Trailer → List ℕ
 trailerText t = (code "T" ∷ []) ++ (figures t ++ ((code " " ∷ []) ++ (offsetText (t .«in_force») ++ (LF ∷ []))))

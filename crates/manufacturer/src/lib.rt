@@ -1,6 +1,5 @@
 // Makers of recorders and their codes, as src/util/manufacturer.rs has them. The readers list the makers in the order
-// of the
-// definition `known`, by which their last arm is proved.
+// of the definition `known`, by which their last arm is proved.
 ghost use mathlib.Core.Path.{_≡_};
 ghost use Rattle.manufacturer.specs.Maker.{letterOf, tripleOf, letterMaker, tripleMaker, tripleNumber};
 use Manufacturer::*;

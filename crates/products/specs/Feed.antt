@@ -32,5 +32,6 @@ FedOf true p names c s b b′ r =
     Took reader countStep (productLineOf p names) (view c) s b b′ (view (r .carried)) (r .taken) (r .end)
 FedOf false p names c s b b′ r = (r ≡ record { carried = c; taken = 0; end = 0 }) × (b′ ≡ b)
 
+-- A call takes lines where they are ready, and else none.
 abbrev pub Feeds : Product → List ℕ → Carried → List ℕ → List ℕ → List ℕ → Fed → Type 0
 Feeds p names c s b b′ r = FedOf (isReady c (length s)) p names c s b b′ r

@@ -15,6 +15,7 @@ module _ (p : Product) (names : List ℕ) where
     next : {c c′ : Carried} {t : List ℕ} {ps : List (List ℕ)} (s b b′ : List ℕ) (r : Fed) → Feeds p names c s b b′ r →
         Rows (r .carried) ps c′ t → Rows c (take (r .taken) s ∷ ps) c′ (take (r .end) b′ ++ t)
 
+-- What calls in a row write, whatever the pieces, is the text of the whole log.
 pub record InPieces : Type 0 where
   -- The texts are those of the papers.
   pub listing : (names log : List ℕ) → productText Listing names log ≡ listingText log

@@ -20,10 +20,10 @@ pub record Parsed (s : List ℕ) (r : Record) (t : TableRead) : Type 0 where
 -- changes nothing.
 pub record Back (s : List ℕ) (m : Res (List ℕ)) : Type 0 where
   pub text : m ≡ ok s
-  pub room : (b b′ : List ℕ) (p : Printed) → Prints m b b′ p → length s ≤ length b → (printedRes p ≡ ok (length s))
-      × (b′ ≡ s ++ drop (length s) b)
-  pub no-room : (b b′ : List ℕ) (p : Printed) → Prints m b b′ p → length b < length s → (printedRes p ≡ no NoRoom)
-      × (b′ ≡ b)
+  pub room : (b b′ : List ℕ) (p : Printed) → Prints m b b′ p → length s ≤ length b →
+      (printedRes p ≡ ok (length s)) × (b′ ≡ s ++ drop (length s) b)
+  pub no-room : (b b′ : List ℕ) (p : Printed) → Prints m b b′ p → length b < length s →
+      (printedRes p ≡ no NoRoom) × (b′ ≡ b)
 
 -- The record of an accepted line s has the text m.
 pub record Reprints (s : List ℕ) (m : Res (List ℕ)) : Type 0 where
@@ -42,6 +42,7 @@ ComesBack = (s : List ℕ) (r : Record) (t : TableRead) → Parsed s r t → Rep
 
 -- ---- each exception is needed: accepted lines and what they print as
 
+-- Each exception is needed: a line of it that does not come back.
 pub record Needed : Type 0 where
   -- The A line was in letter form.
   pub letter-form : reprinted (spelt "AC00069") ≡ ok (spelt "ACAM00069")

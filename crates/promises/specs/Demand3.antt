@@ -20,8 +20,9 @@ SameValues x y =
 
 -- On an accepted B line every lookup by name is refused.
 abbrev pub NoValues : Line-read → Type 0
-NoValues x = (fix : BRecord) (name : Mnemonic) → x .answer ≡ ok (Record.B fix) → lookUp 35 (fix .rest) (x .held) name
-    (x .line) ≡ no NoDefinition
+NoValues x =
+    (fix : BRecord) (name : Mnemonic) → x .answer ≡ ok (Record.B fix)
+    → lookUp 35 (fix .rest) (x .held) name (x .line) ≡ no NoDefinition
 
 -- Where `stay` holds these lines keep their extension values; else they do from the next line on that begins with I.
 abbrev pub ValuesStay : Bool → List Line-read → List Line-read → Type 0
@@ -29,13 +30,14 @@ ValuesStay stay [] [] = Unit
 ValuesStay stay [] (y ∷ ys) = ⊥
 ValuesStay stay (x ∷ xs) [] = ⊥
 ValuesStay stay (x ∷ xs) (y ∷ ys) =
-    ((stay ∨? begins (code "I") (x .line)) ≡ true → SameValues x y) × ValuesStay (stay ∨? begins (code "I") (x .line))
-    xs ys
+    ((stay ∨? begins (code "I") (x .line)) ≡ true → SameValues x y)
+    × ValuesStay (stay ∨? begins (code "I") (x .line)) xs ys
 
 -- None of these lines begins with I and is accepted.
 abbrev pub NoneAccepted : List (List ℕ) → Type 0
 NoneAccepted [] = Unit
-NoneAccepted (c ∷ cs) = (begins (code "I") (lineText c) ≡ true → (r : Record) → readLine (lineText c) ≡ ok r → ⊥)
+NoneAccepted (c ∷ cs) =
+    (begins (code "I") (lineText c) ≡ true → (r : Record) → readLine (lineText c) ≡ ok r → ⊥)
     × NoneAccepted cs
 
 -- The readings of the lines after a run that stands behind the lines `pre`.
@@ -46,8 +48,9 @@ afterRun pre run post = drop (length (chunks pre) + length (chunks run)) (readin
 -- `new`.
 pub record Replaced (pre old new post : List ℕ) : Type 0 where
   -- Lines before it read as before.
-  pub before : take (length (chunks pre)) (readings reader (pre ++ (new ++ post))) ≡ take (length (chunks pre))
-      (readings reader (pre ++ (old ++ post)))
+  pub before :
+      take (length (chunks pre)) (readings reader (pre ++ (new ++ post)))
+      ≡ take (length (chunks pre)) (readings reader (pre ++ (old ++ post)))
   -- Lines after it keep answer, fields and text, with line number and place shifted by the difference alone.
   pub later :
       Each reader (Moved reader (length (chunks new)) (length (chunks old)) (length new) (length old))
@@ -65,6 +68,7 @@ pub record Replaced (pre old new post : List ℕ) : Type 0 where
   pub refused : NoneAccepted (chunks pre) → NoneAccepted (chunks new) → NoneAccepted (chunks post) →
       All reader NoValues (readings reader (pre ++ (new ++ post)))
 
+-- The demand: at every line's start, for every two runs of whole lines.
 abbrev pub Demand3 : Type 0
 Demand3 = (pre old new post : List ℕ) → closed pre ≡ true → closed old ≡ true → closed new ≡ true
     → Replaced pre old new post

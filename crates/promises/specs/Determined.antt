@@ -27,6 +27,7 @@ use Rattle.bench_loops.specs.Timed.{Out}
 abbrev pub Tells : {A E : Type 0} → (E → Res A) → Type 0
 Tells {A} {E} view = (r q : E) → view r ≡ view q → r ≡ q
 
+-- Whatever form a contract takes, two answers that it permits are equal.
 pub record Determined : Type 1 where
   pub u8 : Tells u8Res
   pub u16 : Tells u16Res

@@ -23,6 +23,7 @@ lineAs names x =
     headText (x .number) (x .line) (x .answer)
     ++ (fieldsAs (x .answer) (reprinted (x .line)) (x .held) names (x .line) ++ (LF ∷ []))
 
+-- What `fields` shows of a log is what its records print.
 pub record Shown : Type 0 where
   -- The piece of an accepted line's record is its text, as `Record::print` writes it.
   pub piece : (s : List ℕ) (r : Record) → readLine s ≡ ok r → reprinted s ≡ ok (recordPiece r (recordTable r s) s)

@@ -39,6 +39,5 @@ module _ (base : ℕ) (rest : Part) (h : Held) (name : Mnemonic) (s : List ℕ) 
       → lookUp base rest h name s
       ≡ ok (record {
         start = rest .start + (e .«start_byte» - (base + 1));
-        len = (e .«end_byte» - base) -
-            (e .«start_byte» - (base + 1));
+        len = (e .«end_byte» - base) - (e .«start_byte» - (base + 1));
       })

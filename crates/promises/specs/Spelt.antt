@@ -2,6 +2,7 @@
 use Rattle.text.specs.Prelude.{ℕ, zero, suc, _+_, code, String, charAt, List, [], _∷_}
 use Prim.Native.String.{len}
 
+-- The characters of a text from a place on, as bytes.
 unfoldable pub speltFrom : ℕ → ℕ → String → List ℕ
 speltFrom zero i s = []
 speltFrom (suc k) i s = code (charAt s i) ∷ speltFrom k (i + 1) s

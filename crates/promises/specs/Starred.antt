@@ -15,6 +15,7 @@ use Rattle.records.specs.Record.{readLine, reprinted}
 use Rattle.records.specs.declared.Record.{Record}
 use Rattle.promises.specs.Spelt.{spelt}
 
+-- Each of them.
 pub record Starred : Type 0 where
   -- Empty line: 1. `HFFTY`: 1; `HFFTY:` has an empty name and empty data.
   pub line-empty : readLine (spelt "") ≡ no Syntax
@@ -27,8 +28,7 @@ pub record Starred : Type 0 where
         «data» = record { start = 6; len = 0 };
       }))
   -- `AC00069` prints `ACAM00069`. `AX12345` prints `A12345`, which reads as 1. `AX123456` prints `A123456`, which reads
-  -- as
-  -- maker `1`, id 23456.
+  -- as maker `1`, id 23456.
   pub line-AC00069 : reprinted (spelt "AC00069") ≡ ok (spelt "ACAM00069")
   pub line-AX12345 : reprinted (spelt "AX12345") ≡ ok (spelt "A12345")
   pub line-A12345 : readLine (spelt "A12345") ≡ no Syntax
@@ -38,8 +38,7 @@ pub record Starred : Type 0 where
       ≡ ok (Record.A (record {
         manufacturer = UnknownSingle 49;
         «unique_id» = record { start = 2; len = 5 };
-        «id_extension» =
-            MaybePart.Missing;
+        «id_extension» = MaybePart.Missing;
       }))
   -- Time 246060 is accepted, 90060 seconds; 250000 is 4.
   pub time-246060 : readTime (spelt "246060") ≡ ok (record { hours = 24; minutes = 60; seconds = 60 })

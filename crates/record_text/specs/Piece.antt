@@ -10,12 +10,15 @@ use Rattle.b_record.specs.BRecord.{pressureText, gpsText}
 use Rattle.b_record.specs.declared.{PressureAlt.PressureAlt, GpsAlt.GpsAlt}
 use Rattle.c_record.specs.declared.MaybeDate.{MaybeDate}
 
+-- A number in plain decimal.
 unfoldable pub numberShown : ℕ → List ℕ
 numberShown n = (code " " ∷ []) ++ padded 1 n
 
+-- A pressure height in plain decimal.
 unfoldable pub pressureShown : PressureAlt → List ℕ
 pressureShown h = (code " " ∷ []) ++ pressureText 1 h
 
+-- A GPS height in plain decimal.
 unfoldable pub gpsShown : GpsAlt → List ℕ
 gpsShown h = (code " " ∷ []) ++ gpsText 1 h
 
@@ -27,6 +30,7 @@ byteShown b = (code " " ∷ []) ++ (b ∷ [])
 unfoldable pub placeText : Part → List ℕ
 placeText p = padded 1 (p .start) ++ ((code "+" ∷ []) ++ padded 1 (p .len))
 
+-- A part of the line, as START+LEN.
 unfoldable pub partShown : Part → List ℕ
 partShown p = (code " " ∷ []) ++ placeText p
 
@@ -39,6 +43,7 @@ maybeShown (MaybePart.At p) = partShown p
 unfoldable pub twoMarked : ℕ → ℕ → ℕ → List ℕ
 twoMarked mark b c = (mark ∷ []) ++ (padded 1 b ++ ((mark ∷ []) ++ padded 1 c))
 
+-- Three numbers parted by a mark.
 unfoldable pub threeShown : ℕ → ℕ → ℕ → ℕ → List ℕ
 threeShown mark a b c = numberShown a ++ twoMarked mark b c
 
@@ -50,6 +55,7 @@ timeShown t = threeShown (code ":") (t .hours) (t .minutes) (t .seconds)
 unfoldable pub dateShown : Date → List ℕ
 dateShown d = threeShown (code "/") (d .day) (d .month) (d .year)
 
+-- A flight date, `-` for none.
 unfoldable pub flightShown : MaybeDate → List ℕ
 flightShown MaybeDate.Missing = byteShown (code "-")
 flightShown (MaybeDate.On d) = dateShown d
@@ -68,6 +74,7 @@ unfoldable pub letterShown : MaybeLetter → List ℕ
 letterShown MaybeLetter.Missing = byteShown (code "-")
 letterShown (MaybeLetter.Letter b) = byteShown b
 
+-- A maker's triple, `-` for none.
 unfoldable pub tripleShown : MaybeTriple → List ℕ
 tripleShown MaybeTriple.Missing = byteShown (code "-")
 tripleShown (MaybeTriple.Triple t) = (code " " ∷ []) ++ mnemonicText t

@@ -64,6 +64,7 @@ readKind J s = bind (readTable s) (λ ds. ok Record.J)
 readKind NotTaken s = ok (Record.NotTaken (whole s))
 readKind Other s = ok (Record.Unrecognised (whole s))
 
+-- An empty line is 1; else its first byte chooses.
 unfoldable pub readLine : List ℕ → Res Record
 readLine s = guard (1 ≤? length s) Syntax (readKind (kindOf (byte 0 s)) s)
 

@@ -31,6 +31,7 @@ pub record Drained (c : Carried) (w w′ : List ℕ) (r : Turn) : Type 0 where
   pub fill : r .fill ≡ length w - pieceEnd false w
   pub rest : w′ ≡ sets w 0 (drop (pieceEnd false w) w)
 
+-- What draining a full window comes to.
 abbrev pub Drains : Carried → List ℕ → List ℕ → Turn → Type 0
 Drains c w w′ r = Goes c (r .carried) (r .more) × (r .more ≡ true → Drained c w w′ r)
 

@@ -56,8 +56,7 @@ turn-start body n =
       count = refl;
       inside = omega arith;
       held = refl;
-      left = behind-none
-          _ ∙ ap (λ (k : ℕ). readDefs k body) (omega arith);
+      left = behind-none _ ∙ ap (λ (k : ℕ). readDefs k body) (omega arith);
     }
 
 module _ (body : List ℕ) (n i : ℕ) (defs : List Extension) (t : Turn body n i defs) (more : i < n) where

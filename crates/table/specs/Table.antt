@@ -43,6 +43,7 @@ readTable s = guard (3 ≤? length s) Syntax (guard (isTable (byte 0 s)) Syntax 
 unfoldable pub defsOf : Table → List Extension
 defsOf t = take (t .count) (t .defs)
 
+-- The texts of definitions, one after the other.
 unfoldable pub defsText : List Extension → List ℕ
 defsText [] = []
 defsText (e ∷ es) = extensionText e ++ defsText es

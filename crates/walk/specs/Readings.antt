@@ -16,8 +16,9 @@ use Rattle.walk.specs.declared.Taken.the-variants.{Line, Done}
 abbrev pub reader : Reader (Res Record) Held
 reader = record { read = readLine; after = λ p h s. heldAfter (code "I") h s; start = noTable }
 
-pub i-lines-set : (p : ℕ) (h : Held) (s : List ℕ) → heldAfter (code "I") h s ≡ pick (begins (code "I") s)
-    (setBy (readTable s)) h
+-- A line that begins with I sets or removes the table, and no other touches it.
+pub i-lines-set : (p : ℕ) (h : Held) (s : List ℕ) →
+    heldAfter (code "I") h s ≡ pick (begins (code "I") s) (setBy (readTable s)) h
 unfolding heldAfter
 i-lines-set p h s = refl
 
@@ -38,8 +39,7 @@ readBy s (Line part reading) w later =
       place = part .start;
       line = bytesOf part s;
       answer = readingRes reading;
-      held =
-          w .held;
+      held = w .held;
     } ∷ later
 
 -- The readings of at most k steps of a walk, up to the one that is done.

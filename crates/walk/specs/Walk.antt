@@ -26,5 +26,6 @@ stepTo s w (Next.Line cut after) = record {
 }
 stepTo s w Next.Done = record { taken = Done; walk = w }
 
+-- One step from where the walk stands.
 unfoldable pub stepOf : List ℕ → Walk → Step
 stepOf s w = stepTo s w (nextOf s (w .at))

@@ -10,8 +10,8 @@ unfolding firstLetter
 letter-of-spec =
     tie.close
     (tie.spec
-    (λ c. second _ (fails
-    _ (no≤ (omega (arith, List·getD-eq-default (now (c .before .args .line)) 0 {n = 0} (omega arith))))) refl)
+    (λ c. second _
+    (fails _ (no≤ (omega (arith, List·getD-eq-default (now (c .before .args .line)) 0 {n = 0} (omega arith))))) refl)
     (search needs)
     (λ c. second _ (fails _ (no≤ (c .if2 .taken))) refl)
     (λ c. second _ (holds (yes≤ (c .before .if2 .left)) (no≤ (c .if3 .taken))) refl)

@@ -1,6 +1,5 @@
 -- A walk of the MIR by hand, after the kit's reader/next: the reader is taken apart, and `line_at` is called on its log
--- and its place. All that is
--- known of `line_at` is its contract.
+-- and its place. All that is known of `line_at` is its contract.
 use Rattle.text.specs.Prelude.{ℕ, _^_, _<_, List, [], _∷_, RefT, now}
 use Rattle.text.proofs.Prelude.{refl}
 use lib.Dec.{T as Holds}

@@ -1,6 +1,5 @@
 -- A walk of the MIR by hand, after the kit's reader/moved. The reader is Copy: it is kept whole for the exit, and what
--- its log owns goes into the
--- result, beside the facts of the two numbers.
+-- its log owns goes into the result, beside the facts of the two numbers.
 use Rattle.text.specs.Prelude.{[], _∷_}
 use Rattle.text.proofs.Prelude.{refl}
 use lib.Dec.{T as Holds}

@@ -1,6 +1,5 @@
 -- A walk of the MIR by hand, after the kit's reader/overlap: the reader is taken apart, and `next_at` is called on its
--- fields, in their order. All that
--- is known of `next_at` is its contract.
+-- fields, in their order. All that is known of `next_at` is its contract.
 use Rattle.text.specs.Prelude.{_≡_, [], _∷_, now}
 use Rattle.text.proofs.Prelude.{refl}
 use lib.Dec.{T as Holds}

@@ -1,6 +1,5 @@
 -- A walk of the MIR by hand, after the kit's reader/new. A `&[u8]` is Copy: what it owns is had twice, once for the
--- exit and once inside the reader,
--- beside the facts of the two numbers.
+-- exit and once inside the reader, beside the facts of the two numbers.
 use Rattle.text.specs.Prelude.{ℕ, List, [], _∷_, length, RefT}
 use Rattle.text.proofs.Prelude.{refl}
 use lib.Dec.{lit<}

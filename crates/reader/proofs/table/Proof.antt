@@ -1,6 +1,6 @@
 -- A walk of the MIR by hand, after the kit's reader/next: the reader is taken apart, and `table_at` is called on its
--- log, its place and what is held.
--- All that is known of `table_at` is its contract. What held owns is made anew where it is asked.
+-- log, its place and what is held. All that is known of `table_at` is its contract. What held owns is made anew where
+-- it is asked.
 use Rattle.text.specs.Prelude.{_^_, _<_, _≡_, [], _∷_, now}
 use Rattle.text.proofs.Prelude.{refl}
 use lib.Dec.{T as Holds}

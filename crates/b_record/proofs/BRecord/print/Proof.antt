@@ -23,8 +23,8 @@ text c = on _ (text-found _ (came foundRes (c .-inside .given .1) (c .before .be
 
 outside : tie.Need-returns-2
 unfolding bText partText textOf
-outside c = refused
-    _ (off _ (off _ (came foundRes (c .before .no .given .1) (c .before .before .before .find .ensures))))
+outside c =
+    refused _ (off _ (off _ (came foundRes (c .before .no .given .1) (c .before .before .before .find .ensures))))
 
 pub print-spec : {M : Type 1} → statement M
 print-spec =
