@@ -1,24 +1,15 @@
 -- A lines: the recorder's maker and number.
-use Prim.Native.Nat.{ℕ, _+_}
-use mathlib.Core.List.{List, [], _∷_, _++_}
-use mathlib.Core.Bool.{Bool}
-use lib.ListN.{length}
-use Rattle.text.specs.Res.{Res, ok, no, bind, guard, pick, _≤?_, _∧?_}
-use Rattle.text.specs.Line.{byte, cut}
-use Rattle.part.specs.Part.{nameFrom, partText, maybeText}
-use Rattle.text.specs.Number.{allDigits}
+use Rattle.text.specs.Prelude.{ℕ, _+_, code, Bool, List, [], _∷_, _++_, length, Res, ok, no, bind, guard, pick, _≤?_}
+use Rattle.text.specs.Prelude.{_=?_, _∧?_, byte, cut, allDigits}
+use Rattle.part.specs.Part.{nameFrom, partText, maybeText, partBytes, maybeBytes}
 use Rattle.text.specs.declared.refusal.Refusal.the-variants.{Syntax, NotAscii}
-use Rattle.part.specs.declared.Part.{Part}
-use Rattle.part.specs.declared.MaybePart.{MaybePart}
+use Rattle.part.specs.declared.{Part.Part, MaybePart.MaybePart}
 use Rattle.field.specs.Field.{asciiIn, mnemonicText}
 use Rattle.field.specs.declared.Mnemonic.{Mnemonic}
 use Rattle.manufacturer.specs.Maker.{letterMaker, tripleMaker, tripleOf}
-use Rattle.manufacturer.specs.declared.Manufacturer.{Manufacturer}
-use Rattle.manufacturer.specs.declared.MaybeTriple.{MaybeTriple}
+use Rattle.manufacturer.specs.declared.{Manufacturer.Manufacturer, MaybeTriple.MaybeTriple}
 use Rattle.manufacturer.specs.declared.MaybeTriple.the-variants.{Missing, Triple}
-use Rattle.a_record.specs.declared.ARecord.{ARecord}
-use Rattle.a_record.specs.declared.ARead.{ARead}
-use Rattle.a_record.specs.declared.ARead.the-variants as a
+use Rattle.a_record.specs.declared.{ARecord.ARecord, ARead.ARead}
 
 -- A record of its three parts.
 unfoldable pub aNew : Manufacturer → Part → MaybePart → ARecord
@@ -47,13 +38,15 @@ readTriple s =
     (asciiIn (cut 0 4 s) (ok (aOf s (tripleMaker (triple s)) 4 5)))
     (asciiIn (cut 0 7 s) (ok (aOf s (tripleMaker (triple s)) 4 3)))
 
--- Under 7 bytes 1; the letter form: column 1 ASCII (2), maker by letter, id 2-7, rest from 7; else a triple.
+-- Under 7 bytes 1; a first byte other than A 1; the letter form: column 1 ASCII (2), maker by letter, id 2-7, rest from
+-- 7; else a triple.
 unfoldable pub readA : List ℕ → Res ARecord
 readA s =
     guard (7 ≤? length s) Syntax
+    (guard (byte 0 s =? code "A") Syntax
     (pick (letterForm s)
     (guard (byte 1 s ≤? 127) NotAscii (ok (aOf s (letterMaker (byte 1 s)) 2 5)))
-    (readTriple s))
+    (readTriple s)))
 
 -- A maker prints its triple; one that has none prints nothing.
 unfoldable pub tripleText : MaybeTriple → List ℕ
@@ -62,7 +55,11 @@ tripleText (Triple t) = mnemonicText t
 
 -- The letter, the triple, id and rest.
 unfoldable pub aBody : ARecord → List ℕ → List ℕ → List ℕ
-aBody r id rest = (65 ∷ []) ++ (tripleText (tripleOf (r .manufacturer)) ++ (id ++ rest))
+aBody r id rest = (code "A" ∷ []) ++ (tripleText (tripleOf (r .manufacturer)) ++ (id ++ rest))
+
+-- The same with the parts that the line has; one that lies outside is left out.
+abbrev pub aPiece : ARecord → List ℕ → List ℕ
+aPiece r s = aBody r (partBytes (r .«unique_id») s) (maybeBytes (r .«id_extension») s)
 
 -- The text of a record beside its line; 9 where a part lies outside.
 unfoldable pub aText : ARecord → List ℕ → Res (List ℕ)
@@ -74,5 +71,5 @@ aText r s =
 -- ---- the answers of the code
 
 abbrev pub aRes : ARead → Res ARecord
-aRes (a.Ok v) = ok v
-aRes (a.Refused n) = no n
+aRes (ARead.Ok v) = ok v
+aRes (ARead.Refused n) = no n

@@ -2,11 +2,11 @@
 ghost use mathlib.Core.Path.{_≡_};
 ghost use Prim.Native.Nat.{_+_, _≤_};
 ghost use lib.ListN.{length};
-ghost use Rattle.part.specs.Part.{findPart, findMaybe, partBytes, maybeBytes, shown, Shows};
+ghost use Rattle.part.specs.Part.{findPart, findMaybe, shown, Shows};
 ghost use Rattle.put.specs.Put.{Wrote};
 ghost use Rattle.print.specs.Print.{Prints};
 ghost use Rattle.manufacturer.specs.Maker.{tripleOf};
-ghost use Rattle.a_record.specs.ARecord.{aNew, aOf, longForm, readTriple, readA, tripleText, aBody, aText, aRes};
+ghost use Rattle.a_record.specs.ARecord.{aNew, aOf, longForm, readTriple, readA, tripleText, aPiece, aText, aRes};
 use field::Mnemonic;
 use field::all_digits;
 use field::is_ascii;
@@ -32,7 +32,7 @@ pub enum ARead {
     Refused(Refusal),
 }
 
-// At least 9 bytes, the last five of them digits.
+// At least 9 bytes, and columns 4-9 are digits.
 fn is_long(line: &[u8]) -> bool
     ensures { λ r. ⌜ r ≡ longForm (now (line .entry)) ⌝ }
 {
@@ -42,7 +42,7 @@ fn is_long(line: &[u8]) -> bool
     all_digits(&line[4..9])
 }
 
-fn put_triple(m: Manufacturer, buf: &mut [u8], at: usize) -> usize
+fn put_triple(buf: &mut [u8], at: usize, m: Manufacturer) -> usize
     ensures { λ r. ⌜ Wrote (now (buf .entry)) at (tripleText (tripleOf m)) (now (buf .exit)) r ⌝ }
 {
     match m.to_triple_char() {
@@ -52,6 +52,7 @@ fn put_triple(m: Manufacturer, buf: &mut [u8], at: usize) -> usize
 }
 
 impl ARecord {
+    // A record of its three parts.
     pub fn new(manufacturer: Manufacturer, id: Part, extension: MaybePart) -> ARecord
         ensures { λ r. ⌜ r ≡ aNew manufacturer id extension ⌝ }
     {
@@ -93,10 +94,14 @@ impl ARecord {
         ARead::Refused(Refusal::NotAscii)
     }
 
+    // Reads an A line, by the letter form where columns 2-7 are digits, and else by a triple.
     pub fn parse(line: &[u8]) -> ARead
         ensures { λ r. ⌜ aRes r ≡ readA (now (line .entry)) ⌝ }
     {
         if line.len() < 7 {
+            return ARead::Refused(Refusal::Syntax);
+        }
+        if line[0] != b'A' {
             return ARead::Refused(Refusal::Syntax);
         }
         if all_digits(&line[2..7]) {
@@ -118,6 +123,7 @@ impl ARecord {
         id.view(line)
     }
 
+    // What stands behind the id, as a part of the caller's own line.
     pub fn id_extension(self, line: &[u8]) -> &[u8]
         ensures { λ r. ⌜ Shows (line .entry) (shown (findMaybe (self .«id_extension») (now (line .entry)))) r ⌝ }
     {
@@ -127,18 +133,19 @@ impl ARecord {
 
     // The text as a piece of a larger one, from a place on: bytes that are too short cut it, and what lies outside the
     // line is left out. `print` is the printer.
-    pub fn put_piece(self, line: &[u8], buf: &mut [u8], at: usize) -> usize
-        ensures { λ r. ⌜ Wrote (now (buf .entry)) at (aBody self (partBytes (self .«unique_id») (now (line .entry))) (maybeBytes (self .«id_extension») (now (line .entry)))) (now (buf .exit)) r ⌝ }
+    pub fn put_piece(self, buf: &mut [u8], at: usize, line: &[u8]) -> usize
+        ensures { λ r. ⌜ Wrote (now (buf .entry)) at (aPiece self (now (line .entry))) (now (buf .exit)) r ⌝ }
     {
         let maker = self.manufacturer;
         let id = self.unique_id;
         let rest = self.id_extension;
-        let triple = put_byte(buf, at, b'A');
-        let number = put_triple(maker, buf, triple);
-        let end = put_part(buf, number, line, id);
-        put_maybe(buf, end, line, rest)
+        let at_triple = put_byte(buf, at, b'A');
+        let at_number = put_triple(buf, at_triple, maker);
+        let at_rest = put_part(buf, at_number, line, id);
+        put_maybe(buf, at_rest, line, rest)
     }
 
+    // Prints the record beside its line.
     pub fn print(self, line: &[u8], buf: &mut [u8]) -> Printed
         ensures { λ r. ⌜ Prints (aText self (now (line .entry))) (now (buf .entry)) (now (buf .exit)) r ⌝ }
     {
@@ -149,10 +156,10 @@ impl ARecord {
             Found::At(_id) => match rest.find(line) {
                 Found::Refused(no_rest) => Printed::Refused(no_rest),
                 Found::At(_rest) => {
-                    if buf.len() < self.put_piece(line, &mut [], 0) {
+                    if buf.len() < self.put_piece(&mut [], 0, line) {
                         return Printed::Refused(Refusal::NoRoom);
                     }
-                    Printed::Written(self.put_piece(line, buf, 0))
+                    Printed::Written(self.put_piece(buf, 0, line))
                 }
             },
         }

@@ -1,32 +1,22 @@
 -- The quick way: fields whose numbers are digits alone are read as their values.
-use Prim.Native.Nat.{ℕ, _+_, _-_, _≤_, _<_}
-use mathlib.Core.Path.{_≡_, refl, ap, _∙_}
-use mathlib.Core.Bool.{true}
-use mathlib.Core.List.{List}
-use native.Mathlib.Omega.{arith}
-use lib.ListN.{length, length-take, length-drop}
+use Rattle.text.specs.Prelude.{ℕ, _+_, _-_, _≤_, _<_, _≡_, true, List, length, Res, ok, bind, byte, cut, columns}
+use Rattle.text.specs.Prelude.{readNat, readInt, allDigits, valueFrom}
+use Rattle.text.proofs.Prelude.{arith, refl, ap, _∙_, length-drop, length-take, on, pass, yes=, both}
 use mir.Syntax.{w16}
 use mir.Val.{toZ}
 use mir.Facts.{toZ-pos}
-use Rattle.text.specs.Res.{Res, ok, bind}
-use Rattle.text.specs.Line.{byte, cut, columns}
-use Rattle.text.specs.Number.{allDigits, valueFrom, readNat, readInt}
-use Rattle.text.proofs.Steps.{both, on, pass, yes=}
 use Rattle.text.proofs.Decimal.{value-below}
 use Rattle.text.proofs.Reading.{Written, nat-plain, int-plain}
 use Rattle.field.specs.Field.{isAscii, sized}
 use Rattle.text.proofs.Lines.{cut-length}
 use Rattle.field.proofs.Digits.{cut-cut, byte-cut, cut-digits}
-use Rattle.field.proofs.Fields.{known-columns}
+use Rattle.field.proofs.Fields.{columns-of-ascii}
 use Rattle.datetime.specs.Three.{readThree}
 use Rattle.datetime.specs.Time.{timeOf, readTime}
-use Rattle.coord.specs.Coord.{lettered, readCoord, readBoth, readPosition}
-use Rattle.coord.specs.Coord.{latitude, longitude, latitudeIn, longitudeIn, latitudeBy, longitudeBy}
-use Rattle.coord.specs.declared.Compass.{Compass}
+use Rattle.coord.specs.Coord.{lettered, readCoord, readBoth, readPosition, latitude, longitude, latitudeIn, longitudeIn}
+use Rattle.coord.specs.Coord.{latitudeBy, longitudeBy}
+use Rattle.coord.specs.declared.{Compass.Compass, RawCoord.RawCoord, RawLatitude.RawLatitude, RawLongitude.RawLongitude}
 use Rattle.coord.specs.declared.Compass.the-variants.{North, South, East, West}
-use Rattle.coord.specs.declared.RawCoord.{RawCoord}
-use Rattle.coord.specs.declared.RawLatitude.{RawLatitude}
-use Rattle.coord.specs.declared.RawLongitude.{RawLongitude}
 use Rattle.b_record.specs.BRecord.{readHeights}
 use Rattle.b_quick.specs.Quick.{plainDigits}
 
@@ -61,9 +51,9 @@ pub record Numbers (s : List ℕ) : Type 0 where
   pub gps : Digits 30 35 s
 
 -- a line of plain digits has them
-pub numbers : (s : List ℕ) → 35 ≤ length s → plainDigits s ≡ true → Numbers s
+pub plain-numbers : (s : List ℕ) → 35 ≤ length s → plainDigits s ≡ true → Numbers s
 unfolding plainDigits
-numbers s l h =
+plain-numbers s l h =
     let k = both h in
     let m = both (k .1) in
     let n = both (m .1) in
@@ -81,14 +71,15 @@ numbers s l h =
     }
 
 -- they are at most five, as the code asks
-pub few : {a b : ℕ} {s : List ℕ} → Digits a b s → b - a ≤ 5 → (allDigits (cut a b s) ≡ true) × (length (cut a b s) ≤ 5)
-few d h = (d .all, omega (arith, d .wide))
+pub at-most-five : {a b : ℕ} {s : List ℕ} → Digits a b s → b - a ≤ 5 → (allDigits (cut a b s) ≡ true)
+    × (length (cut a b s) ≤ 5)
+at-most-five d h = (d .all, omega (arith, d .wide))
 
 -- ---- numbers of digits alone
 
 -- the value that the code makes of digits
-pub written : {a b v : ℕ} {s : List ℕ} → Digits a b s → v ≡ valueFrom 0 (cut a b s) → Written (cut a b s) v
-written d e = record { some = omega (arith, d .some, d .wide); digits = d .all; value = e }
+pub digits-written : {a b v : ℕ} {s : List ℕ} → Digits a b s → v ≡ valueFrom 0 (cut a b s) → Written (cut a b s) v
+digits-written d e = record { some = omega (arith, d .some, d .wide); digits = d .all; value = e }
 
 -- v is the value of the digits from a up to b, and at most most
 pub record Number (a b most : ℕ) (s : List ℕ) (v : ℕ) : Type 0 where
@@ -96,13 +87,14 @@ pub record Number (a b most : ℕ) (s : List ℕ) (v : ℕ) : Type 0 where
   pub fits : v ≤ most
 
 -- a number that passed its test
-pub within : {a b most v : ℕ} {s : List ℕ} → Written (cut a b s) v → v ≤ most → Number a b most s v
-within w h = record { digits = w; fits = h }
+pub number-within : {a b most v : ℕ} {s : List ℕ} → Written (cut a b s) v → v ≤ most → Number a b most s v
+number-within w h = record { digits = w; fits = h }
 
 -- two digits fit into a byte
-pub two : {a b v : ℕ} {s : List ℕ} → Digits a b s → v ≡ valueFrom 0 (cut a b s) → b - a ≤ 2 → Number a b 255 s v
-two {a} {b} {s = s} d e h =
-    within (written d e) (omega (arith, value-below 2 (cut a b s) (d .all) (omega (arith, d .wide))))
+pub two-digits-fit : {a b v : ℕ} {s : List ℕ} → Digits a b s → v ≡ valueFrom 0 (cut a b s) → b - a ≤ 2
+    → Number a b 255 s v
+two-digits-fit {a} {b} {s = s} d e h =
+    number-within (digits-written d e) (omega (arith, value-below 2 (cut a b s) (d .all) (omega (arith, d .wide))))
 
 -- such a number is read in the columns of a field
 nat-in : (a b c d : ℕ) {most v : ℕ} (s : List ℕ) →
@@ -156,7 +148,7 @@ module _ (s : List ℕ) (line : (35 ≤ length s) × (isAscii s ≡ true)) where
       (on _ (nat-in 1 7 0 2 s (omega arith) h)
       (on _ (nat-in 1 7 2 4 s (omega arith) m)
       (on _ (nat-in 1 7 4 6 s (omega arith) t) refl)))
-      ∙ known-columns 1 7 6 (readThree timeOf) s (line .1)
+      ∙ columns-of-ascii 1 7 6 (readThree timeOf) s (line .1)
 
   -- a coordinate is read as its two numbers and its letter
   pub latitude-at : {g t : ℕ} → Number 7 9 255 s g → Number 9 14 65535 s t → latitudeBy g t (byte 14 s) ≡ latitudeOf s
@@ -175,7 +167,7 @@ module _ (s : List ℕ) (line : (35 ≤ length s) × (isAscii s ≡ true)) where
   unfolding columns sized readPosition
   position-at p q =
       pass _ (yes= (cut-length 7 17 s (omega arith))) (rw (both-at s) (on _ p (on _ q refl)))
-      ∙ known-columns 7 24 17 readBoth s (line .1)
+      ∙ columns-of-ascii 7 24 17 readBoth s (line .1)
 
 -- and the heights as their two numbers
 pub heights-at : {p g : ℕ} {s : List ℕ} → Number 25 30 32767 s p → Number 30 35 32767 s g →

@@ -1,14 +1,8 @@
 -- The quick way says No of plain digits: `readFix` refuses them.
-use Prim.Native.Nat.{ℕ, _+_, _<_}
-use mathlib.Core.Path.{_≡_, refl, ap}
-use mathlib.Core.Bool.{Bool, true, false}
-use mathlib.Core.List.{List}
-use native.Mathlib.Omega.{arith}
-use Rattle.text.specs.Res.{Res, ok, no, bind, guard}
-use Rattle.text.specs.Line.{byte, cut, columns}
-use Rattle.text.specs.Number.{readDigits, readNat, readInt}
+use Rattle.text.specs.Prelude.{ℕ, _+_, _<_, _≡_, Bool, true, false, List, Res, ok, no, bind, guard, byte, cut, columns}
+use Rattle.text.specs.Prelude.{readNat, readInt, readDigits}
+use Rattle.text.proofs.Prelude.{arith, refl, ap, off, pass, stop, second, yes≤, no≤}
 use Rattle.text.specs.declared.refusal.Refusal.{Refusal}
-use Rattle.text.proofs.Steps.{off, pass, stop, second, yes≤, no≤}
 use Rattle.text.proofs.Reading.{Written, no-sign}
 use Rattle.field.specs.Field.{sized, asciiIn, ascii, field}
 use Rattle.field.proofs.Digits.{cut-cut}
@@ -16,7 +10,7 @@ use Rattle.datetime.specs.Time.{readTime}
 use Rattle.coord.specs.Coord.{readCoord, latitude, longitude, readBoth, readPosition}
 use Rattle.coord.specs.declared.Compass.{Compass}
 use Rattle.coord.specs.declared.Compass.the-variants.{North, South, East, West}
-use Rattle.b_record.specs.BRecord.{fixOf, readHeights, readFix}
+use Rattle.b_record.specs.BRecord.{validOf, readHeights, readFix}
 use Rattle.b_record.specs.declared.BRecord.{BRecord}
 use Rattle.b_quick.specs.Quick.{fixRead}
 use Rattle.b_quick.specs.declared.Quick.the-variants.{Fix, No}
@@ -108,7 +102,7 @@ module _ (s : List ℕ) where
   pub no-longitude : Refuses (longitudeOf s) → Refuses (readFix s)
   no-longitude r = no-position (rw (both-at s) (refuses-later _ (λ _. refuses-first _ r)))
 
-  pub no-letter : Refuses (fixOf (byte 24 s)) → Refuses (readFix s)
+  pub no-letter : Refuses (validOf (byte 24 s)) → Refuses (readFix s)
   unfolding readFix
   no-letter r = refuses-later _ (λ _. refuses-later _ (λ _. refuses-first _ r))
 

@@ -1,10 +1,6 @@
 -- A fix of the quick way is the line's.
-use Prim.Native.Nat.{ℕ}
-use mathlib.Core.Path.{_≡_}
-use mathlib.Core.Bool.{Bool, true, false}
-use mathlib.Core.List.{List}
-use native.Mathlib.Omega.{arith}
-use Rattle.text.specs.Res.{Res, ok, no, pick}
+use Rattle.text.specs.Prelude.{ℕ, _≡_, Bool, true, false, List, Res, ok, no, pick}
+use Rattle.text.proofs.Prelude.{arith}
 use Rattle.b_record.specs.BRecord.{readB}
 use Rattle.b_record.specs.declared.BRecord.{BRecord}
 use Rattle.b_quick.specs.Quick.{isPlain, fixRead, quickOf}

@@ -1,11 +1,5 @@
 -- B lines whose numbers are plain digits. No definition of a line's reading cites this.
-use Prim.Native.Nat.{ℕ}
-use mathlib.Core.Bool.{Bool}
-use mathlib.Core.List.{List}
-use lib.ListN.{length}
-use Rattle.text.specs.Res.{Res, ok, no, pick, _≤?_, _∧?_}
-use Rattle.text.specs.Line.{cut}
-use Rattle.text.specs.Number.{allDigits}
+use Rattle.text.specs.Prelude.{ℕ, Bool, List, length, Res, ok, no, pick, _≤?_, _∧?_, cut, allDigits}
 use Rattle.field.specs.Field.{isAscii}
 use Rattle.b_record.specs.BRecord.{readB}
 use Rattle.b_record.specs.declared.BRecord.{BRecord}
@@ -15,7 +9,8 @@ use Rattle.b_quick.specs.declared.Quick.the-variants.{Fix, No}
 -- The numbers of a fix have digits alone, by blocks of columns.
 unfoldable pub plainDigits : List ℕ → Bool
 plainDigits s =
-    allDigits (cut 1 9 s) ∧? allDigits (cut 6 14 s) ∧? allDigits (cut 15 23 s) ∧? allDigits (cut 25 33 s) ∧? allDigits (cut 27 35 s)
+    allDigits (cut 1 9 s) ∧? allDigits (cut 6 14 s) ∧? allDigits (cut 15 23 s) ∧? allDigits (cut 25 33 s)
+    ∧? allDigits (cut 27 35 s)
 
 -- A line that the quick way takes: long enough, ASCII, and of plain digits.
 unfoldable pub isPlain : List ℕ → Bool

@@ -11,10 +11,10 @@ ghost use Rattle.b_record.specs.BRecord.{readFix};
 ghost use Rattle.b_quick.specs.Quick.{plainDigits, fixRead, quickOf};
 ghost use Rattle.b_quick.specs.declared.Quick.the-variants.{No};
 use b_record::BRecord;
-use b_record::FixRead;
 use b_record::FixValid;
 use b_record::GpsAlt;
 use b_record::PressureAlt;
+use b_record::ValidRead;
 use coord::LatitudeRead;
 use coord::LongitudeRead;
 use coord::RawLatitude;
@@ -111,7 +111,7 @@ fn plain_fix(line: &[u8]) -> Quick
         LongitudeRead::Refused(_) => return Quick::No,
     };
     match FixValid::from_letter(line[24]) {
-        FixRead::Ok(fix_valid) => Quick::Fix(BRecord {
+        ValidRead::Ok(fix_valid) => Quick::Fix(BRecord {
             rest: Part::from_column(BRecord::BASE_LENGTH, line),
             pos: RawPosition { lat, lon },
             pressure_alt: PressureAlt(pressure as i16),
@@ -119,7 +119,7 @@ fn plain_fix(line: &[u8]) -> Quick
             timestamp,
             fix_valid,
         }),
-        FixRead::Refused(_) => Quick::No,
+        ValidRead::Refused(_) => Quick::No,
     }
 }
 

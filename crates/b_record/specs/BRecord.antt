@@ -1,37 +1,24 @@
 -- B lines: fixes.
-use Prim.Native.Nat.{ℕ}
-use mathlib.Core.List.{List, [], _∷_, _++_}
-use mathlib.Core.Bool.{Bool}
-use lib.ListN.{length}
-use Rattle.text.specs.Res.{Res, ok, no, bind, guard, pick, _≤?_, _=?_, _∧?_}
-use Rattle.text.specs.Line.{byte, columns}
-use Rattle.part.specs.Part.{restFrom, partText}
-use Rattle.text.specs.Number.{readInt, signed}
+use Rattle.text.specs.Prelude.{ℕ, code, Bool, List, [], _∷_, _++_, length, Res, ok, no, bind, guard, pick, _≤?_, _=?_}
+use Rattle.text.specs.Prelude.{_∧?_, byte, columns, readInt, signed}
+use Rattle.part.specs.Part.{restFrom, partText, partBytes}
 use Rattle.text.specs.declared.refusal.Refusal.the-variants.{Syntax}
 use Rattle.field.specs.Field.{ascii}
 use Rattle.datetime.specs.Time.{readTime, timeText, timeBook}
 use Rattle.coord.specs.Coord.{readPosition, positionText, positionBook}
-use Rattle.b_record.specs.declared.FixValid.{FixValid}
+use Rattle.b_record.specs.declared.{FixValid.FixValid, ValidRead.ValidRead, PressureAlt.PressureAlt}
+use Rattle.b_record.specs.declared.{GpsAlt.GpsAlt, Heights.Heights, HeightsRead.HeightsRead, BRecord.BRecord}
+use Rattle.b_record.specs.declared.{BRead.BRead}
 use Rattle.b_record.specs.declared.FixValid.the-variants.{Valid, NavWarning}
-use Rattle.b_record.specs.declared.FixRead.{FixRead}
-use Rattle.b_record.specs.declared.FixRead.the-variants as fix
-use Rattle.b_record.specs.declared.PressureAlt.{PressureAlt}
-use Rattle.b_record.specs.declared.GpsAlt.{GpsAlt}
-use Rattle.b_record.specs.declared.Heights.{Heights}
-use Rattle.b_record.specs.declared.HeightsRead.{HeightsRead}
-use Rattle.b_record.specs.declared.HeightsRead.the-variants as heights
-use Rattle.b_record.specs.declared.BRecord.{BRecord}
-use Rattle.b_record.specs.declared.BRead.{BRead}
-use Rattle.b_record.specs.declared.BRead.the-variants as b
 
 -- A, V.
-unfoldable pub fixLetter : FixValid → ℕ
-fixLetter Valid = 65
-fixLetter NavWarning = 86
+unfoldable pub validLetter : FixValid → ℕ
+validLetter Valid = code "A"
+validLetter NavWarning = code "V"
 
 -- A or V by its letter; 1 else.
-unfoldable pub fixOf : ℕ → Res FixValid
-fixOf l = pick (l =? fixLetter Valid) (ok Valid) (pick (l =? fixLetter NavWarning) (ok NavWarning) (no Syntax))
+unfoldable pub validOf : ℕ → Res FixValid
+validOf l = pick (l =? validLetter Valid) (ok Valid) (pick (l =? validLetter NavWarning) (ok NavWarning) (no Syntax))
 
 -- Pressure height 25-30, GPS height 30-35.
 unfoldable pub readHeights : List ℕ → Res Heights
@@ -45,7 +32,7 @@ unfoldable pub readFix : List ℕ → Res BRecord
 readFix s =
     bind (columns 1 7 readTime s) (λ time.
     bind (columns 7 24 readPosition s) (λ pos.
-    bind (fixOf (byte 24 s)) (λ valid.
+    bind (validOf (byte 24 s)) (λ valid.
     bind (readHeights s) (λ heights.
     ok (record {
       timestamp = time;
@@ -60,21 +47,26 @@ readFix s =
 unfoldable pub readB : List ℕ → Res BRecord
 readB s = guard (35 ≤? length s) Syntax (ascii readFix s)
 
--- A height as text, in a width.
+-- A pressure height as text, in a width.
 abbrev pub pressureText : ℕ → PressureAlt → List ℕ
 pressureText width h = signed width (h .0)
 
+-- A GPS height as text, in a width.
 abbrev pub gpsText : ℕ → GpsAlt → List ℕ
 gpsText width h = signed width (h .0)
 
 -- A or V, the heights in width 5, and the rest.
-unfoldable pub fixText : BRecord → List ℕ → List ℕ
-fixText r rest =
-    (fixLetter (r .«fix_valid») ∷ []) ++ (pressureText 5 (r .«pressure_alt») ++ (gpsText 5 (r .«gps_alt») ++ rest))
+unfoldable pub tailText : BRecord → List ℕ → List ℕ
+tailText r rest =
+    (validLetter (r .«fix_valid») ∷ []) ++ (pressureText 5 (r .«pressure_alt») ++ (gpsText 5 (r .«gps_alt») ++ rest))
 
 -- The letter, time, position, and these.
 unfoldable pub bBody : BRecord → List ℕ → List ℕ
-bBody r rest = (66 ∷ []) ++ (timeText (r .timestamp) ++ (positionText (r .pos) ++ fixText r rest))
+bBody r rest = (code "B" ∷ []) ++ (timeText (r .timestamp) ++ (positionText (r .pos) ++ tailText r rest))
+
+-- The same with the parts that the line has; one that lies outside is left out.
+abbrev pub bPiece : BRecord → List ℕ → List ℕ
+bPiece r s = bBody r (partBytes (r .rest) s)
 
 -- The text of a record beside its line; 9 where the rest lies outside.
 unfoldable pub bText : BRecord → List ℕ → Res (List ℕ)
@@ -86,14 +78,14 @@ bBook r = timeBook (r .timestamp) ∧? positionBook (r .pos)
 
 -- ---- the answers of the code
 
-abbrev pub fixRes : FixRead → Res FixValid
-fixRes (fix.Ok v) = ok v
-fixRes (fix.Refused n) = no n
+abbrev pub validRes : ValidRead → Res FixValid
+validRes (ValidRead.Ok v) = ok v
+validRes (ValidRead.Refused n) = no n
 
 abbrev pub heightsRes : HeightsRead → Res Heights
-heightsRes (heights.Ok v) = ok v
-heightsRes (heights.Refused n) = no n
+heightsRes (HeightsRead.Ok v) = ok v
+heightsRes (HeightsRead.Refused n) = no n
 
 abbrev pub bRes : BRead → Res BRecord
-bRes (b.Ok v) = ok v
-bRes (b.Refused n) = no n
+bRes (BRead.Ok v) = ok v
+bRes (BRead.Refused n) = no n

@@ -6,7 +6,8 @@ ghost use Rattle.part.specs.Part.{findPart, partBytes, shown, Shows, foundRes};
 ghost use Rattle.extension.specs.Value.{findValue};
 ghost use Rattle.put.specs.Put.{Wrote};
 ghost use Rattle.print.specs.Print.{Prints};
-ghost use Rattle.b_record.specs.BRecord.{pressureText, gpsText, fixLetter, fixOf, readHeights, readB, fixText, bBody, bText, bBook, fixRes, heightsRes, bRes};
+ghost use Rattle.b_record.specs.BRecord.{pressureText, gpsText, validLetter, validOf, readHeights, readB};
+ghost use Rattle.b_record.specs.BRecord.{tailText, bPiece, bText, bBook, validRes, heightsRes, bRes};
 use coord::position::PositionRead;
 use coord::position::RawPosition;
 use datetime::Time;
@@ -48,7 +49,7 @@ struct Heights {
     gps: GpsAlt,
 }
 
-pub enum FixRead {
+pub enum ValidRead {
     Ok(FixValid),
     Refused(Refusal),
 }
@@ -65,6 +66,7 @@ pub enum BRead {
 
 // Where a pressure height comes out as a number, and nowhere else.
 impl PressureAlt {
+    // The one place where the number of a pressure height comes out.
     pub fn put(self, buf: &mut [u8], at: usize, width: usize) -> usize
         ensures { λ r. ⌜ Wrote (now (buf .entry)) at (pressureText width self) (now (buf .exit)) r ⌝ }
     {
@@ -74,6 +76,7 @@ impl PressureAlt {
 
 // The same of a GPS height.
 impl GpsAlt {
+    // The one place where the number of a GPS height comes out.
     pub fn put(self, buf: &mut [u8], at: usize, width: usize) -> usize
         ensures { λ r. ⌜ Wrote (now (buf .entry)) at (gpsText width self) (now (buf .exit)) r ⌝ }
     {
@@ -82,8 +85,9 @@ impl GpsAlt {
 }
 
 impl FixValid {
+    // A or V.
     pub fn letter(self) -> u8
-        ensures { λ r. ⌜ r ≡ fixLetter self ⌝ }
+        ensures { λ r. ⌜ r ≡ validLetter self ⌝ }
     {
         match self {
             FixValid::Valid => b'A',
@@ -91,18 +95,19 @@ impl FixValid {
         }
     }
 
-    pub fn from_letter(letter: u8) -> FixRead
-        ensures { λ r. ⌜ fixRes r ≡ fixOf letter ⌝ }
+    // A or V by its letter.
+    pub fn from_letter(letter: u8) -> ValidRead
+        ensures { λ r. ⌜ validRes r ≡ validOf letter ⌝ }
     {
         match letter {
-            b'A' => FixRead::Ok(FixValid::Valid),
-            b'V' => FixRead::Ok(FixValid::NavWarning),
-            _ => FixRead::Refused(Refusal::Syntax),
+            b'A' => ValidRead::Ok(FixValid::Valid),
+            b'V' => ValidRead::Ok(FixValid::NavWarning),
+            _ => ValidRead::Refused(Refusal::Syntax),
         }
     }
 }
 
-// The two heights, each in its own column and of its own type. Small, so that a fix goes through no other function.
+// The two heights, each from its own columns and of its own type.
 fn read_heights(line: &[u8]) -> HeightsRead
     requires { ⌜ 35 ≤ length (now line) ⌝ }
     ensures { λ r. ⌜ heightsRes r ≡ readHeights (now (line .entry)) ⌝ }
@@ -123,6 +128,7 @@ fn read_heights(line: &[u8]) -> HeightsRead
 impl BRecord {
     pub const BASE_LENGTH: usize = 35;
 
+    // Reads a B line of at least 35 ASCII bytes.
     pub fn parse(line: &[u8]) -> BRead
         ensures { λ r. ⌜ bRes r ≡ readB (now (line .entry)) ⌝ }
     {
@@ -141,8 +147,8 @@ impl BRecord {
             PositionRead::Refused(no_place) => return BRead::Refused(no_place),
         };
         let fix_valid = match FixValid::from_letter(line[24]) {
-            FixRead::Ok(valid) => valid,
-            FixRead::Refused(no_fix) => return BRead::Refused(no_fix),
+            ValidRead::Ok(valid) => valid,
+            ValidRead::Refused(no_fix) => return BRead::Refused(no_fix),
         };
         match read_heights(line) {
             HeightsRead::Ok(heights) => {
@@ -185,6 +191,7 @@ impl BRecord {
         extension.get_extension(BRecord::BASE_LENGTH, rest, line)
     }
 
+    // Its time and its position are by the book.
     pub fn by_the_book(self) -> bool
         ensures { λ r. ⌜ r ≡ bBook self ⌝ }
     {
@@ -197,8 +204,9 @@ impl BRecord {
     }
 
     // From the fix's letter on.
-    fn put_fix(self, line: &[u8], buf: &mut [u8], at: usize) -> usize
-        ensures { λ r. ⌜ Wrote (now (buf .entry)) at (fixText self (partBytes (self .rest) (now (line .entry)))) (now (buf .exit)) r ⌝ }
+    fn put_tail(self, buf: &mut [u8], at: usize, line: &[u8]) -> usize
+        ensures { λ r. ⌜ Wrote (now (buf .entry)) at (tailText self (partBytes (self .rest) (now (line .entry))))
+            (now (buf .exit)) r ⌝ }
     {
         let fix_valid = self.fix_valid;
         let pressure = self.pressure_alt;
@@ -212,17 +220,18 @@ impl BRecord {
 
     // The text as a piece of a larger one, from a place on: bytes that are too short cut it, and what lies outside the
     // line is left out. `print` is the printer.
-    pub fn put_piece(self, line: &[u8], buf: &mut [u8], at: usize) -> usize
-        ensures { λ r. ⌜ Wrote (now (buf .entry)) at (bBody self (partBytes (self .rest) (now (line .entry)))) (now (buf .exit)) r ⌝ }
+    pub fn put_piece(self, buf: &mut [u8], at: usize, line: &[u8]) -> usize
+        ensures { λ r. ⌜ Wrote (now (buf .entry)) at (bPiece self (now (line .entry))) (now (buf .exit)) r ⌝ }
     {
         let timestamp = self.timestamp;
         let pos = self.pos;
-        let time = put_byte(buf, at, b'B');
-        let place = timestamp.put(buf, time);
-        let fix = pos.put(buf, place);
-        self.put_fix(line, buf, fix)
+        let at_time = put_byte(buf, at, b'B');
+        let at_place = timestamp.put(buf, at_time);
+        let at_fix = pos.put(buf, at_place);
+        self.put_tail(buf, at_fix, line)
     }
 
+    // Prints the record beside its line.
     pub fn print(self, line: &[u8], buf: &mut [u8]) -> Printed
         ensures { λ r. ⌜ Prints (bText self (now (line .entry))) (now (buf .entry)) (now (buf .exit)) r ⌝ }
     {
@@ -230,10 +239,10 @@ impl BRecord {
         match rest.find(line) {
             Found::Refused(no) => Printed::Refused(no),
             Found::At(_inside) => {
-                if buf.len() < self.put_piece(line, &mut [], 0) {
+                if buf.len() < self.put_piece(&mut [], 0, line) {
                     return Printed::Refused(Refusal::NoRoom);
                 }
-                Printed::Written(self.put_piece(line, buf, 0))
+                Printed::Written(self.put_piece(buf, 0, line))
             }
         }
     }

@@ -1,10 +1,6 @@
 -- A turn by `Walk::step`, which carries place, number and table along.
-use Prim.Native.Nat.{ℕ, _-_, _≤_, _<_}
-use mathlib.Core.Path.{_≡_, refl, sym, _∙_}
-use mathlib.Core.List.{List}
-use native.Mathlib.Omega.{arith}
-use lib.ListN.{length}
-use Rattle.text.specs.Word.{largest}
+use Rattle.text.specs.Prelude.{ℕ, _-_, _≤_, _<_, _≡_, List, length, largest}
+use Rattle.text.proofs.Prelude.{arith, refl, sym, _∙_}
 use Rattle.part.specs.Part.{bytesOf}
 use Rattle.part.specs.declared.Part.{Part}
 use Rattle.records.specs.Record.{readLine, readingRes}
@@ -17,8 +13,7 @@ use Rattle.held.specs.declared.Held.{Held}
 use Rattle.walk.specs.Cursor.{past}
 use Rattle.walk.specs.Walk.{readingOf, stepOf}
 use Rattle.walk.specs.Readings.{Line-read, reader}
-use Rattle.walk.specs.declared.Walk.{Walk}
-use Rattle.walk.specs.declared.Step.{Step}
+use Rattle.walk.specs.declared.{Walk.Walk, Step.Step}
 use Rattle.walk.specs.declared.Taken.the-variants.{Line, Done}
 use Rattle.walk.proofs.Laws.{viewed, step-on}
 
@@ -26,8 +21,10 @@ use Rattle.walk.proofs.Laws.{viewed, step-on}
 abbrev pub carriedBy : {T : Type 0} → Walk → T → Carried Held T
 carriedBy w a = record { number = w .at .number; place = w .at .place; held = w .held; made = a }
 
-module _ {T : Type 0} {step : T → Line-read → T} {a₀ a : T} {s : List ℕ} {w : Walk} {t : Step} (short : length s ≤ largest)
-    (i : w .at .place < length s) (r : Reached reader step (fresh reader a₀) s (w .at .place) (carriedBy w a)) (e : t ≡ stepOf s w) where
+module _ {T : Type 0} {step : T → Line-read → T} {a₀ a : T} {s : List ℕ} {w : Walk} {t : Step}
+    (short : length s ≤ largest)
+    (i : w .at .place < length s) (r : Reached reader step (fresh reader a₀) s (w .at .place) (carriedBy w a))
+    (e : t ≡ stepOf s w) where
   abbrev here : List ℕ
   here = bytesOf (cutAt (w .at .place) s .line) s
 

@@ -1,19 +1,12 @@
 -- What is timed: figures over the readings of a fresh walk, in 64 bits.
-use Prim.Native.Nat.{ℕ, _+_, _%_, _^_}
-use mathlib.Core.Path.{_≡_}
-use mathlib.Core.List.{List}
-use lib.IntN.{ℤ, pos, negsuc}
-use lib.ListN.{length}
-use Rattle.text.specs.Res.{Res, ok, no}
-use Rattle.text.specs.Line.{byte}
+use Rattle.text.specs.Prelude.{ℕ, _+_, _%_, _^_, _≡_, List, length, ℤ, pos, negsuc, Res, ok, no, byte}
 use Rattle.part.specs.Part.{bytesOf, shown}
 use Rattle.field.specs.declared.Mnemonic.{Mnemonic}
 use Rattle.print.specs.Print.{answerTo, leftBy}
 use Rattle.datetime.specs.Time.{secondsOf}
 use Rattle.b_record.specs.declared.BRecord.{BRecord}
 use Rattle.records.specs.Record.{answerPrinted, recordFix, answerFix}
-use Rattle.records.specs.declared.Record.{Record}
-use Rattle.records.specs.declared.MaybeFix.{MaybeFix}
+use Rattle.records.specs.declared.{Record.Record, MaybeFix.MaybeFix}
 use Rattle.records.specs.declared.MaybeFix.the-variants.{Missing, Fix}
 use Rattle.held.specs.Held.{lookUp}
 use Rattle.held.specs.declared.Held.{Held}
@@ -22,8 +15,8 @@ use Rattle.log.specs.Fold.{over}
 use Rattle.walk.specs.Readings.{Line-read, reader}
 
 -- A sum, as 64 bits hold it.
-unfoldable pub plus : ℕ → ℕ → ℕ
-plus a b = (a + b) % 2 ^ 64
+unfoldable pub summed : ℕ → ℕ → ℕ
+summed a b = (a + b) % 2 ^ 64
 
 -- A height, and 0 where it is below 0.
 unfoldable pub above : ℤ → ℕ
@@ -49,7 +42,7 @@ ofAnswer (no n) = 0
 
 -- Of a value: its length and its first byte.
 unfoldable pub ofValue : List ℕ → ℕ
-ofValue v = plus (length v) (byte 0 v)
+ofValue v = summed (length v) (byte 0 v)
 
 -- Of what a name finds on a fix; where there is none 0.
 unfoldable pub ofNamed : Mnemonic → Held → MaybeFix → List ℕ → ℕ
@@ -57,41 +50,48 @@ ofNamed name h (Fix b) s = ofValue (bytesOf (shown (lookUp 35 (b .rest) h name s
 ofNamed name h Missing s = 0
 
 -- The length that a printer wrote; 0 where it refused.
-unfoldable pub written : Res ℕ → ℕ
-written (ok n) = n
-written (no n) = 0
+unfoldable pub writtenLength : Res ℕ → ℕ
+writtenLength (ok n) = n
+writtenLength (no n) = 0
 
 -- The bytes b became b′ where the text m was printed into them; r is the length written.
 pub record PrintedLine (m : Res (List ℕ)) (b b′ : List ℕ) (r : ℕ) : Type 0 where
-  pub answer : r ≡ written (answerTo m b)
+  pub answer : r ≡ writtenLength (answerTo m b)
   pub left : b′ ≡ leftBy m b
 
 -- ---- a line
 
+-- One reading more in the sum of answers.
 unfoldable pub readStep : ℕ → Line-read → ℕ
-readStep n x = plus n (ofAnswer (x .answer))
+readStep n x = summed n (ofAnswer (x .answer))
 
+-- The same, with the value of a name on fixes.
 unfoldable pub lookUpStep : Mnemonic → ℕ → Line-read → ℕ
-lookUpStep name n x = plus (plus n (ofAnswer (x .answer))) (ofNamed name (x .held) (answerFix (x .answer)) (x .line))
+lookUpStep name n x = summed (summed n (ofAnswer (x .answer)))
+    (ofNamed name (x .held) (answerFix (x .answer)) (x .line))
 
 -- The lengths of the texts printed, and the bytes in which each was printed in its turn.
 pub record Out : Type 0 where
   pub sum : ℕ
   pub bytes : List ℕ
 
+-- One reading more printed, and its length in the sum.
 unfoldable pub printStep : Out → Line-read → Out
 printStep o x = let text = answerPrinted (x .answer) (x .line) in record {
-  sum = plus (o .sum) (written (answerTo text (o .bytes)));
+  sum = summed (o .sum) (writtenLength (answerTo text (o .bytes)));
   bytes = leftBy text (o .bytes);
 }
 
 -- ---- a log
 
+-- The sum over a log's answers.
 unfoldable pub readSum : List ℕ → ℕ
 readSum log = over readStep 0 (readings reader log)
 
+-- The sum over a log's answers and values.
 unfoldable pub lookUpSum : Mnemonic → List ℕ → ℕ
 lookUpSum name log = over (lookUpStep name) 0 (readings reader log)
 
+-- What printing a log comes to.
 unfoldable pub printedOut : List ℕ → List ℕ → Out
 printedOut log b = over printStep (record { sum = 0; bytes = b }) (readings reader log)

@@ -123,7 +123,8 @@ pub extern "C" fn timed_lookup(log: &[u8], a: u8, b: u8, c: u8) -> u64
 
 // What was read, printed again; the length of its text, and 0 where there is none.
 fn print_line(reading: Reading, line: &[u8], buf: &mut [u8]) -> u64
-    ensures { λ r. ⌜ PrintedLine (answerPrinted (readingRes reading) (now (line .entry))) (now (buf .entry)) (now (buf .exit)) r ⌝ }
+    ensures { λ r. ⌜ PrintedLine (answerPrinted (readingRes reading) (now (line .entry))) (now (buf .entry))
+        (now (buf .exit)) r ⌝ }
 {
     match reading {
         Reading::Refused(_) => 0,

@@ -1,16 +1,14 @@
 -- Any two answers that a contract permits are equal: each view tells its answer.
-use mathlib.Core.Path.{_≡_, refl}
+use Rattle.text.specs.Prelude.{_≡_}
+use Rattle.text.proofs.Prelude.{refl}
 use Rattle.text.proofs.Answers.{made}
 use Rattle.c_record.specs.CRecord.{declarationRes, turnpointRes}
-use Rattle.c_record.specs.declared.DeclarationRead.{DeclarationRead}
-use Rattle.c_record.specs.declared.DeclarationRead.the-variants as declaration
-use Rattle.c_record.specs.declared.TurnpointRead.{TurnpointRead}
-use Rattle.c_record.specs.declared.TurnpointRead.the-variants as turnpoint
+use Rattle.c_record.specs.declared.{DeclarationRead.DeclarationRead, TurnpointRead.TurnpointRead}
 
-pub declaration-undone : (r : DeclarationRead) → made declaration.Ok declaration.Refused (declarationRes r) ≡ r
-declaration-undone (declaration.Ok v) = refl
-declaration-undone (declaration.Refused n) = refl
+pub declaration-undone : (r : DeclarationRead) → made DeclarationRead.Ok DeclarationRead.Refused (declarationRes r) ≡ r
+declaration-undone (DeclarationRead.Ok v) = refl
+declaration-undone (DeclarationRead.Refused n) = refl
 
-pub turnpoint-undone : (r : TurnpointRead) → made turnpoint.Ok turnpoint.Refused (turnpointRes r) ≡ r
-turnpoint-undone (turnpoint.Ok v) = refl
-turnpoint-undone (turnpoint.Refused n) = refl
+pub turnpoint-undone : (r : TurnpointRead) → made TurnpointRead.Ok TurnpointRead.Refused (turnpointRes r) ≡ r
+turnpoint-undone (TurnpointRead.Ok v) = refl
+turnpoint-undone (TurnpointRead.Refused n) = refl

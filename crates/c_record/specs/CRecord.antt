@@ -1,34 +1,21 @@
 -- C lines: a task's declaration and its turnpoints.
-use Prim.Native.Nat.{ℕ}
-use mathlib.Core.List.{List, [], _∷_, _++_}
-use mathlib.Core.Bool.{Bool, true}
-use lib.ListN.{length}
-use Rattle.text.specs.Res.{Res, ok, no, bind, guard, pick, _≤?_, _=?_, _∧?_, _∨?_}
-use Rattle.text.specs.Line.{byte, cut, columns}
-use Rattle.part.specs.Part.{nameFrom, maybeText}
-use Rattle.text.specs.Number.{readNat, readInt, padded, signed, zeros}
+use Rattle.text.specs.Prelude.{ℕ, code, Bool, true, List, [], _∷_, _++_, length, replicate, Res, ok, no, bind, guard}
+use Rattle.text.specs.Prelude.{pick, _≤?_, _=?_, _∧?_, _∨?_, byte, cut, columns, readNat, readInt, zeros, padded}
+use Rattle.text.specs.Prelude.{signed}
+use Rattle.part.specs.Part.{nameFrom, maybeText, maybeBytes}
 use Rattle.text.specs.declared.refusal.Refusal.the-variants.{Syntax}
 use Rattle.field.specs.Field.{asciiIn}
 use Rattle.datetime.specs.Time.{readTime, timeText, timeBook}
 use Rattle.datetime.specs.Date.{readDate, dateText, dateBook}
 use Rattle.coord.specs.Coord.{readPosition, positionText, positionBook}
-use Rattle.c_record.specs.declared.MaybeDate.{MaybeDate}
+use Rattle.c_record.specs.declared.{MaybeDate.MaybeDate, FlightRead.FlightRead, Task.Task, TaskRead.TaskRead}
+use Rattle.c_record.specs.declared.{CRecordDeclaration.CRecordDeclaration, DeclarationRead.DeclarationRead}
+use Rattle.c_record.specs.declared.{CRecordTurnpoint.CRecordTurnpoint, TurnpointRead.TurnpointRead}
 use Rattle.c_record.specs.declared.MaybeDate.the-variants.{Missing, On}
-use Rattle.c_record.specs.declared.FlightRead.{FlightRead}
-use Rattle.c_record.specs.declared.FlightRead.the-variants as flight
-use Rattle.c_record.specs.declared.Task.{Task}
-use Rattle.c_record.specs.declared.TaskRead.{TaskRead}
-use Rattle.c_record.specs.declared.TaskRead.the-variants as task
-use Rattle.c_record.specs.declared.CRecordDeclaration.{CRecordDeclaration}
-use Rattle.c_record.specs.declared.DeclarationRead.{DeclarationRead}
-use Rattle.c_record.specs.declared.DeclarationRead.the-variants as declaration
-use Rattle.c_record.specs.declared.CRecordTurnpoint.{CRecordTurnpoint}
-use Rattle.c_record.specs.declared.TurnpointRead.{TurnpointRead}
-use Rattle.c_record.specs.declared.TurnpointRead.the-variants as turnpoint
 
 -- N or S at column 8 makes a turnpoint.
 unfoldable pub turns : List ℕ → Bool
-turns s = (byte 8 s =? 78) ∨? (byte 8 s =? 83)
+turns s = (byte 8 s =? code "N") ∨? (byte 8 s =? code "S")
 
 -- ---- declarations
 
@@ -43,10 +30,12 @@ readTask s =
     bind (columns 23 25 (readInt 127) s) (λ count.
     ok (record { id = id; count = count })))
 
--- 25 bytes (1), those ASCII (2), date 1-7, time 7-13, flight date 13-19, task, count, name; an empty name is none.
+-- 25 bytes (1), the first C (1), those ASCII (2), date 1-7, time 7-13, flight date 13-19, task, count, name; an empty
+-- name is none.
 unfoldable pub readDeclaration : List ℕ → Res CRecordDeclaration
 readDeclaration s =
     guard (25 ≤? length s) Syntax
+    (guard (byte 0 s =? code "C") Syntax
     (asciiIn (cut 0 25 s)
     (bind (columns 1 7 readDate s) (λ date.
     bind (columns 7 13 readTime s) (λ time.
@@ -59,19 +48,25 @@ readDeclaration s =
       «task_id» = task .id;
       «turnpoint_count» = task .count;
       «task_name» = nameFrom 25 s;
-    })))))))
+    }))))))))
 
+-- A flight date; six zeros for none.
 unfoldable pub flightText : MaybeDate → List ℕ
-flightText Missing = 48 ∷ 48 ∷ 48 ∷ 48 ∷ 48 ∷ 48 ∷ []
+flightText Missing = replicate 6 (code "0")
 flightText (On d) = dateText d
 
 -- Flight date, task in width 4, count in 2, name.
 unfoldable pub taskText : CRecordDeclaration → List ℕ → List ℕ
-taskText r name = flightText (r .«flight_date») ++ (padded 4 (r .«task_id») ++ (signed 2 (r .«turnpoint_count») ++ name))
+taskText r name = flightText (r .«flight_date»)
+    ++ (padded 4 (r .«task_id») ++ (signed 2 (r .«turnpoint_count») ++ name))
 
 -- The letter, date, time, and these.
 unfoldable pub declarationBody : CRecordDeclaration → List ℕ → List ℕ
-declarationBody r name = (67 ∷ []) ++ (dateText (r .date) ++ (timeText (r .time) ++ taskText r name))
+declarationBody r name = (code "C" ∷ []) ++ (dateText (r .date) ++ (timeText (r .time) ++ taskText r name))
+
+-- The same with the parts that the line has; one that lies outside is left out.
+abbrev pub declarationPiece : CRecordDeclaration → List ℕ → List ℕ
+declarationPiece r s = declarationBody r (maybeBytes (r .«task_name») s)
 
 -- The text of a declaration beside its line; 9 where the name lies outside.
 unfoldable pub declarationText : CRecordDeclaration → List ℕ → Res (List ℕ)
@@ -82,43 +77,51 @@ unfoldable pub flightBook : MaybeDate → Bool
 flightBook Missing = true
 flightBook (On d) = dateBook d
 
+-- By the book: its dates and its time are.
 unfoldable pub declarationBook : CRecordDeclaration → Bool
 declarationBook r = dateBook (r .date) ∧? timeBook (r .time) ∧? flightBook (r .«flight_date»)
 
 -- ---- turnpoints
 
--- 18 bytes (1), those ASCII (2), position 1-18, name; an empty name is none.
+-- 18 bytes (1), the first C (1), those ASCII (2), position 1-18, name; an empty name is none.
 unfoldable pub readTurnpoint : List ℕ → Res CRecordTurnpoint
 readTurnpoint s =
     guard (18 ≤? length s) Syntax
+    (guard (byte 0 s =? code "C") Syntax
     (asciiIn (cut 0 18 s)
     (bind (columns 1 18 readPosition s) (λ pos.
-    ok (record { position = pos; «turnpoint_name» = nameFrom 18 s }))))
+    ok (record { position = pos; «turnpoint_name» = nameFrom 18 s })))))
 
 -- The letter, the position, the name.
 unfoldable pub turnpointBody : CRecordTurnpoint → List ℕ → List ℕ
-turnpointBody r name = (67 ∷ []) ++ (positionText (r .position) ++ name)
+turnpointBody r name = (code "C" ∷ []) ++ (positionText (r .position) ++ name)
 
+-- The same with the parts that the line has; one that lies outside is left out.
+abbrev pub turnpointPiece : CRecordTurnpoint → List ℕ → List ℕ
+turnpointPiece r s = turnpointBody r (maybeBytes (r .«turnpoint_name») s)
+
+-- The text of a turnpoint beside its line; 9 where the name lies outside.
 unfoldable pub turnpointText : CRecordTurnpoint → List ℕ → Res (List ℕ)
 turnpointText r s = bind (maybeText (r .«turnpoint_name») s) (λ name. ok (turnpointBody r name))
 
+-- By the book: its position is.
 unfoldable pub turnpointBook : CRecordTurnpoint → Bool
 turnpointBook r = positionBook (r .position)
 
 -- ---- the answers of the code
 
 abbrev pub flightRes : FlightRead → Res MaybeDate
-flightRes (flight.Ok v) = ok v
-flightRes (flight.Refused n) = no n
+flightRes (FlightRead.Ok v) = ok v
+flightRes (FlightRead.Refused n) = no n
 
 abbrev pub taskRes : TaskRead → Res Task
-taskRes (task.Ok v) = ok v
-taskRes (task.Refused n) = no n
+taskRes (TaskRead.Ok v) = ok v
+taskRes (TaskRead.Refused n) = no n
 
 abbrev pub declarationRes : DeclarationRead → Res CRecordDeclaration
-declarationRes (declaration.Ok v) = ok v
-declarationRes (declaration.Refused n) = no n
+declarationRes (DeclarationRead.Ok v) = ok v
+declarationRes (DeclarationRead.Refused n) = no n
 
 abbrev pub turnpointRes : TurnpointRead → Res CRecordTurnpoint
-turnpointRes (turnpoint.Ok v) = ok v
-turnpointRes (turnpoint.Refused n) = no n
+turnpointRes (TurnpointRead.Ok v) = ok v
+turnpointRes (TurnpointRead.Refused n) = no n

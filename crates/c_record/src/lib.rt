@@ -8,7 +8,9 @@ ghost use Rattle.part.specs.Part.{findMaybe, maybeBytes, shown, Shows};
 ghost use Rattle.text.specs.Number.{zeros};
 ghost use Rattle.put.specs.Put.{Wrote};
 ghost use Rattle.print.specs.Print.{Prints};
-ghost use Rattle.c_record.specs.CRecord.{turns, readFlight, readTask, readDeclaration, flightText, taskText, declarationBody, declarationText, flightBook, declarationBook, flightRes, taskRes, declarationRes};
+ghost use Rattle.c_record.specs.CRecord.{turns, readFlight, readTask, readDeclaration, flightText, taskText};
+ghost use Rattle.c_record.specs.CRecord.{declarationPiece, declarationText, flightBook, declarationBook};
+ghost use Rattle.c_record.specs.CRecord.{flightRes, taskRes, declarationRes};
 use coord::position::RawPosition;
 use datetime::Date;
 use datetime::DateRead;
@@ -127,7 +129,7 @@ fn read_task(line: &[u8]) -> TaskRead
     }
 }
 
-fn put_flight(flight: MaybeDate, buf: &mut [u8], at: usize) -> usize
+fn put_flight(buf: &mut [u8], at: usize, flight: MaybeDate) -> usize
     ensures { λ r. ⌜ Wrote (now (buf .entry)) at (flightText flight) (now (buf .exit)) r ⌝ }
 {
     match flight {
@@ -146,10 +148,14 @@ fn flight_by_the_book(flight: MaybeDate) -> bool
 }
 
 impl CRecordDeclaration {
+    // Reads a task's declaration.
     pub fn parse(line: &[u8]) -> DeclarationRead
         ensures { λ r. ⌜ declarationRes r ≡ readDeclaration (now (line .entry)) ⌝ }
     {
         if line.len() < 25 {
+            return DeclarationRead::Refused(Refusal::Syntax);
+        }
+        if line[0] != b'C' {
             return DeclarationRead::Refused(Refusal::Syntax);
         }
         if !is_ascii(&line[0..25]) {
@@ -188,6 +194,7 @@ impl CRecordDeclaration {
         name.view(line)
     }
 
+    // Its dates and its time are by the book; no flight date passes.
     pub fn by_the_book(self) -> bool
         ensures { λ r. ⌜ r ≡ declarationBook self ⌝ }
     {
@@ -203,30 +210,32 @@ impl CRecordDeclaration {
     }
 
     // From the flight date on.
-    fn put_task(self, line: &[u8], buf: &mut [u8], at: usize) -> usize
-        ensures { λ r. ⌜ Wrote (now (buf .entry)) at (taskText self (maybeBytes (self .«task_name») (now (line .entry)))) (now (buf .exit)) r ⌝ }
+    fn put_task(self, buf: &mut [u8], at: usize, line: &[u8]) -> usize
+        ensures { λ r. ⌜ Wrote (now (buf .entry))
+            at (taskText self (maybeBytes (self .«task_name») (now (line .entry)))) (now (buf .exit)) r ⌝ }
     {
         let flight = self.flight_date;
         let name = self.task_name;
-        let id = put_flight(flight, buf, at);
-        let count = put_nat(buf, id, self.task_id as u64, 4);
-        let end = put_i8(buf, count, self.turnpoint_count, 2);
-        put_maybe(buf, end, line, name)
+        let at_id = put_flight(buf, at, flight);
+        let at_count = put_nat(buf, at_id, self.task_id as u64, 4);
+        let at_name = put_i8(buf, at_count, self.turnpoint_count, 2);
+        put_maybe(buf, at_name, line, name)
     }
 
     // The text as a piece of a larger one, from a place on: bytes that are too short cut it, and what lies outside the
     // line is left out. `print` is the printer.
-    pub fn put_piece(self, line: &[u8], buf: &mut [u8], at: usize) -> usize
-        ensures { λ r. ⌜ Wrote (now (buf .entry)) at (declarationBody self (maybeBytes (self .«task_name») (now (line .entry)))) (now (buf .exit)) r ⌝ }
+    pub fn put_piece(self, buf: &mut [u8], at: usize, line: &[u8]) -> usize
+        ensures { λ r. ⌜ Wrote (now (buf .entry)) at (declarationPiece self (now (line .entry))) (now (buf .exit)) r ⌝ }
     {
         let date = self.date;
         let time = self.time;
-        let first = put_byte(buf, at, b'C');
-        let second = date.put(buf, first);
-        let third = time.put(buf, second);
-        self.put_task(line, buf, third)
+        let at_first = put_byte(buf, at, b'C');
+        let at_second = date.put(buf, at_first);
+        let at_third = time.put(buf, at_second);
+        self.put_task(buf, at_third, line)
     }
 
+    // Prints the record beside its line.
     pub fn print(self, line: &[u8], buf: &mut [u8]) -> Printed
         ensures { λ r. ⌜ Prints (declarationText self (now (line .entry))) (now (buf .entry)) (now (buf .exit)) r ⌝ }
     {
@@ -234,10 +243,10 @@ impl CRecordDeclaration {
         match name.find(line) {
             Found::Refused(no) => Printed::Refused(no),
             Found::At(_inside) => {
-                if buf.len() < self.put_piece(line, &mut [], 0) {
+                if buf.len() < self.put_piece(&mut [], 0, line) {
                     return Printed::Refused(Refusal::NoRoom);
                 }
-                Printed::Written(self.put_piece(line, buf, 0))
+                Printed::Written(self.put_piece(buf, 0, line))
             }
         }
     }

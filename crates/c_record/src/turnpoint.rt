@@ -1,9 +1,10 @@
 // Turnpoints of a task.
 ghost use mathlib.Core.Path.{_≡_};
-ghost use Rattle.part.specs.Part.{findMaybe, maybeBytes, shown, Shows};
+ghost use Rattle.part.specs.Part.{findMaybe, shown, Shows};
 ghost use Rattle.put.specs.Put.{Wrote};
 ghost use Rattle.print.specs.Print.{Prints};
-ghost use Rattle.c_record.specs.CRecord.{readTurnpoint, turnpointBody, turnpointText, turnpointBook, turnpointRes};
+ghost use Rattle.c_record.specs.CRecord.{readTurnpoint, turnpointPiece, turnpointText, turnpointBook};
+ghost use Rattle.c_record.specs.CRecord.{turnpointRes};
 use crate::CRecordTurnpoint;
 use crate::TurnpointRead;
 use coord::position::PositionRead;
@@ -17,10 +18,14 @@ use put::put_maybe;
 use text::refusal::Refusal;
 
 impl CRecordTurnpoint {
+    // Reads a turnpoint.
     pub fn parse(line: &[u8]) -> TurnpointRead
         ensures { λ r. ⌜ turnpointRes r ≡ readTurnpoint (now (line .entry)) ⌝ }
     {
         if line.len() < 18 {
+            return TurnpointRead::Refused(Refusal::Syntax);
+        }
+        if line[0] != b'C' {
             return TurnpointRead::Refused(Refusal::Syntax);
         }
         if !is_ascii(&line[0..18]) {
@@ -43,6 +48,7 @@ impl CRecordTurnpoint {
         name.view(line)
     }
 
+    // Its position is by the book.
     pub fn by_the_book(self) -> bool
         ensures { λ r. ⌜ r ≡ turnpointBook self ⌝ }
     {
@@ -52,16 +58,17 @@ impl CRecordTurnpoint {
 
     // The text as a piece of a larger one, from a place on: bytes that are too short cut it, and what lies outside the
     // line is left out. `print` is the printer.
-    pub fn put_piece(self, line: &[u8], buf: &mut [u8], at: usize) -> usize
-        ensures { λ r. ⌜ Wrote (now (buf .entry)) at (turnpointBody self (maybeBytes (self .«turnpoint_name») (now (line .entry)))) (now (buf .exit)) r ⌝ }
+    pub fn put_piece(self, buf: &mut [u8], at: usize, line: &[u8]) -> usize
+        ensures { λ r. ⌜ Wrote (now (buf .entry)) at (turnpointPiece self (now (line .entry))) (now (buf .exit)) r ⌝ }
     {
         let position = self.position;
         let name = self.turnpoint_name;
-        let first = put_byte(buf, at, b'C');
-        let second = position.put(buf, first);
-        put_maybe(buf, second, line, name)
+        let at_first = put_byte(buf, at, b'C');
+        let at_second = position.put(buf, at_first);
+        put_maybe(buf, at_second, line, name)
     }
 
+    // Prints the record beside its line.
     pub fn print(self, line: &[u8], buf: &mut [u8]) -> Printed
         ensures { λ r. ⌜ Prints (turnpointText self (now (line .entry))) (now (buf .entry)) (now (buf .exit)) r ⌝ }
     {
@@ -69,10 +76,10 @@ impl CRecordTurnpoint {
         match name.find(line) {
             Found::Refused(no) => Printed::Refused(no),
             Found::At(_inside) => {
-                if buf.len() < self.put_piece(line, &mut [], 0) {
+                if buf.len() < self.put_piece(&mut [], 0, line) {
                     return Printed::Refused(Refusal::NoRoom);
                 }
-                Printed::Written(self.put_piece(line, buf, 0))
+                Printed::Written(self.put_piece(buf, 0, line))
             }
         }
     }

@@ -1,12 +1,10 @@
 -- Degrees in either format.
-use Prim.Native.Nat.{ℕ}
-use mathlib.Core.Path.{_≡_, refl}
+use Rattle.text.specs.Prelude.{ℕ, _≡_, pos}
+use Rattle.text.proofs.Prelude.{refl}
 use lib.Count.{trailingZeros}
-use lib.IntN.{pos}
 use lib.Ieee.{Format, binary32, binary64, add, div, ofInt, ofBits, ofFields, odd, round, size, span, climb, units}
-use Rattle.coord.specs.Degrees.{signed, degreesOf}
-use Rattle.coord.specs.declared.Compass.{Compass}
-use Rattle.coord.specs.declared.RawCoord.{RawCoord}
+use Rattle.coord.specs.Degrees.{bySign, degreesOf}
+use Rattle.coord.specs.declared.{Compass.Compass, RawCoord.RawCoord}
 
 -- the bits of the code's 60000.0
 abbrev pub bits : Format → ℕ
@@ -20,6 +18,7 @@ sixty-thousand binary64 = refl
 
 -- what the code computes, by the direction
 pub by-sign : (f : Format) (c : RawCoord) {s : Compass} → c .sign ≡ s
-    → signed s (add f (ofInt f (pos (c .degrees))) (div f (ofInt f (pos (c .«minute_thousandths»))) (ofBits f (bits f)))) ≡ degreesOf f c
+    → bySign s (add f (ofInt f (pos (c .degrees)))
+    (div f (ofInt f (pos (c .«minute_thousandths»))) (ofBits f (bits f)))) ≡ degreesOf f c
 unfolding degreesOf
 by-sign f c e = rw (e, sixty-thousand f)

@@ -1,39 +1,24 @@
 -- Coordinates, and a position: latitude first.
-use Prim.Native.Nat.{ℕ, _+_}
-use mathlib.Core.List.{List, [], _∷_, _++_}
-use mathlib.Core.Bool.{Bool}
-use Rattle.text.specs.Res.{Res, ok, no, bind, guard, pick, _≤?_, _=?_, _∧?_, _∨?_}
-use Rattle.text.specs.Line.{byte, columns}
-use Rattle.text.specs.Number.{readNat, padded}
+use Rattle.text.specs.Prelude.{ℕ, _+_, code, Bool, List, [], _∷_, _++_, Res, ok, no, bind, guard, pick, _≤?_, _=?_}
+use Rattle.text.specs.Prelude.{_∧?_, _∨?_, byte, columns, readNat, padded}
 use Rattle.text.specs.declared.refusal.Refusal.the-variants.{Syntax, OutOfRange}
 use Rattle.field.specs.Field.{sized, field}
-use Rattle.coord.specs.declared.Compass.{Compass}
+use Rattle.coord.specs.declared.{Compass.Compass, CompassRead.CompassRead, RawCoord.RawCoord, CoordRead.CoordRead}
+use Rattle.coord.specs.declared.{RawLatitude.RawLatitude, LatitudeRead.LatitudeRead, RawLongitude.RawLongitude}
+use Rattle.coord.specs.declared.{LongitudeRead.LongitudeRead, position.RawPosition.RawPosition}
+use Rattle.coord.specs.declared.{position.PositionRead.PositionRead}
 use Rattle.coord.specs.declared.Compass.the-variants.{North, South, East, West}
-use Rattle.coord.specs.declared.CompassRead.{CompassRead}
-use Rattle.coord.specs.declared.CompassRead.the-variants as compass
-use Rattle.coord.specs.declared.RawCoord.{RawCoord}
-use Rattle.coord.specs.declared.CoordRead.{CoordRead}
-use Rattle.coord.specs.declared.CoordRead.the-variants as coord
-use Rattle.coord.specs.declared.RawLatitude.{RawLatitude}
-use Rattle.coord.specs.declared.LatitudeRead.{LatitudeRead}
-use Rattle.coord.specs.declared.LatitudeRead.the-variants as lat
-use Rattle.coord.specs.declared.RawLongitude.{RawLongitude}
-use Rattle.coord.specs.declared.LongitudeRead.{LongitudeRead}
-use Rattle.coord.specs.declared.LongitudeRead.the-variants as lon
-use Rattle.coord.specs.declared.position.RawPosition.{RawPosition}
-use Rattle.coord.specs.declared.position.PositionRead.{PositionRead}
-use Rattle.coord.specs.declared.position.PositionRead.the-variants as pos
 
 -- N, S, E, W.
-unfoldable pub letterOf : Compass → ℕ
-letterOf North = 78
-letterOf South = 83
-letterOf East = 69
-letterOf West = 87
+unfoldable pub compassLetter : Compass → ℕ
+compassLetter North = code "N"
+compassLetter South = code "S"
+compassLetter East = code "E"
+compassLetter West = code "W"
 
 -- x or y by its letter; 1 else.
 unfoldable pub signOf : Compass → Compass → ℕ → Res Compass
-signOf x y l = pick (l =? letterOf x) (ok x) (pick (l =? letterOf y) (ok y) (no Syntax))
+signOf x y l = pick (l =? compassLetter x) (ok x) (pick (l =? compassLetter y) (ok y) (no Syntax))
 
 -- Degrees at most the limit, thousandths of a minute at most 60000; 4 else.
 unfoldable pub coordOf : ℕ → ℕ → ℕ → Compass → Res RawCoord
@@ -55,12 +40,13 @@ readCoord d limit x y s =
 -- Degrees at most the limit, thousandths below 60000, the letter of x or of y; 4 else.
 unfoldable pub newCoord : ℕ → Compass → Compass → ℕ → ℕ → Compass → Res RawCoord
 newCoord limit x y g t sign =
-    guard ((g ≤? limit) ∧? (t ≤? 59999) ∧? ((letterOf sign =? letterOf x) ∨? (letterOf sign =? letterOf y))) OutOfRange
+    guard ((g ≤? limit) ∧? (t ≤? 59999)
+    ∧? ((compassLetter sign =? compassLetter x) ∨? (compassLetter sign =? compassLetter y))) OutOfRange
     (ok (record { degrees = g; «minute_thousandths» = t; sign = sign }))
 
 -- Degrees in width d, thousandths in width 5, the letter.
 unfoldable pub coordText : ℕ → RawCoord → List ℕ
-coordText d c = padded d (c .degrees) ++ (padded 5 (c .«minute_thousandths») ++ (letterOf (c .sign) ∷ []))
+coordText d c = padded d (c .degrees) ++ (padded 5 (c .«minute_thousandths») ++ (compassLetter (c .sign) ∷ []))
 
 -- By the book: thousandths below 60000.
 unfoldable pub coordBook : RawCoord → Bool
@@ -68,9 +54,11 @@ coordBook c = c .«minute_thousandths» ≤? 59999
 
 -- ---- latitude and longitude, which are types apart
 
+-- A coordinate that is a latitude.
 unfoldable pub latitude : Res RawCoord → Res RawLatitude
 latitude m = bind m (λ c. ok (record { 0 = c }))
 
+-- A coordinate that is a longitude.
 unfoldable pub longitude : Res RawCoord → Res RawLongitude
 longitude m = bind m (λ c. ok (record { 0 = c }))
 
@@ -86,6 +74,7 @@ readLongitude s = longitude (field 9 (readCoord 3 180 East West) s)
 unfoldable pub latitudeIn : List ℕ → Res RawLatitude
 latitudeIn s = latitude (sized 8 (readCoord 2 90 North South) s)
 
+-- The same of nine bytes, a longitude.
 unfoldable pub longitudeIn : List ℕ → Res RawLongitude
 longitudeIn s = longitude (sized 9 (readCoord 3 180 East West) s)
 
@@ -93,18 +82,23 @@ longitudeIn s = longitude (sized 9 (readCoord 3 180 East West) s)
 unfoldable pub latitudeBy : ℕ → ℕ → ℕ → Res RawLatitude
 latitudeBy g t l = latitude (lettered 90 North South g t l)
 
+-- The same of a longitude.
 unfoldable pub longitudeBy : ℕ → ℕ → ℕ → Res RawLongitude
 longitudeBy g t l = longitude (lettered 180 East West g t l)
 
+-- A latitude that is made: to 90 degrees, N or S.
 unfoldable pub newLatitude : ℕ → ℕ → Compass → Res RawLatitude
 newLatitude g t sign = latitude (newCoord 90 North South g t sign)
 
+-- A longitude that is made: to 180 degrees, E or W.
 unfoldable pub newLongitude : ℕ → ℕ → Compass → Res RawLongitude
 newLongitude g t sign = longitude (newCoord 180 East West g t sign)
 
+-- Degrees in width 2, thousandths, letter.
 abbrev pub latitudeText : RawLatitude → List ℕ
 latitudeText l = coordText 2 (l .0)
 
+-- Degrees in width 3, thousandths, letter.
 abbrev pub longitudeText : RawLongitude → List ℕ
 longitudeText l = coordText 3 (l .0)
 
@@ -125,30 +119,32 @@ readPosition = field 17 readBoth
 unfoldable pub positionIn : List ℕ → Res RawPosition
 positionIn = sized 17 readBoth
 
+-- The latitude's text, then the longitude's.
 unfoldable pub positionText : RawPosition → List ℕ
 positionText p = latitudeText (p .lat) ++ longitudeText (p .lon)
 
+-- By the book: both coordinates are.
 unfoldable pub positionBook : RawPosition → Bool
 positionBook p = coordBook (p .lat .0) ∧? coordBook (p .lon .0)
 
 -- ---- the answers of the code
 
 abbrev pub compassRes : CompassRead → Res Compass
-compassRes (compass.Ok v) = ok v
-compassRes (compass.Refused n) = no n
+compassRes (CompassRead.Ok v) = ok v
+compassRes (CompassRead.Refused n) = no n
 
 abbrev pub coordRes : CoordRead → Res RawCoord
-coordRes (coord.Ok v) = ok v
-coordRes (coord.Refused n) = no n
+coordRes (CoordRead.Ok v) = ok v
+coordRes (CoordRead.Refused n) = no n
 
 abbrev pub latitudeRes : LatitudeRead → Res RawLatitude
-latitudeRes (lat.Ok v) = ok v
-latitudeRes (lat.Refused n) = no n
+latitudeRes (LatitudeRead.Ok v) = ok v
+latitudeRes (LatitudeRead.Refused n) = no n
 
 abbrev pub longitudeRes : LongitudeRead → Res RawLongitude
-longitudeRes (lon.Ok v) = ok v
-longitudeRes (lon.Refused n) = no n
+longitudeRes (LongitudeRead.Ok v) = ok v
+longitudeRes (LongitudeRead.Refused n) = no n
 
 abbrev pub positionRes : PositionRead → Res RawPosition
-positionRes (pos.Ok v) = ok v
-positionRes (pos.Refused n) = no n
+positionRes (PositionRead.Ok v) = ok v
+positionRes (PositionRead.Refused n) = no n

@@ -8,40 +8,44 @@ use crate::RawLatitude;
 use crate::RawLongitude;
 
 impl RawCoord {
+    // Degrees as a float of 32 bits, negative in the south and the west.
     pub fn to_f32(self) -> f32
         ensures { λ r. ⌜ r ≡ degreesOf binary32 self ⌝ }
     {
-        let value = self.degrees as f32 + self.minute_thousandths as f32 / 60000.0;
+        let in_f32 = self.degrees as f32 + self.minute_thousandths as f32 / 60000.0;
         let sign = self.sign;
         match sign {
-            Compass::North => value,
-            Compass::East => value,
-            Compass::South => -value,
-            Compass::West => -value,
+            Compass::North => in_f32,
+            Compass::East => in_f32,
+            Compass::South => -in_f32,
+            Compass::West => -in_f32,
         }
     }
 
+    // The same of 64 bits.
     pub fn to_f64(self) -> f64
         ensures { λ r. ⌜ r ≡ degreesOf binary64 self ⌝ }
     {
-        let value = self.degrees as f64 + self.minute_thousandths as f64 / 60000.0;
+        let in_f64 = self.degrees as f64 + self.minute_thousandths as f64 / 60000.0;
         let sign = self.sign;
         match sign {
-            Compass::North => value,
-            Compass::East => value,
-            Compass::South => -value,
-            Compass::West => -value,
+            Compass::North => in_f64,
+            Compass::East => in_f64,
+            Compass::South => -in_f64,
+            Compass::West => -in_f64,
         }
     }
 }
 
 impl RawLatitude {
+    // Degrees as a float of 32 bits, negative in the south.
     pub fn to_f32(self) -> f32
         ensures { λ r. ⌜ r ≡ degreesOf binary32 (self .0) ⌝ }
     {
         self.0.to_f32()
     }
 
+    // The same of 64 bits.
     pub fn to_f64(self) -> f64
         ensures { λ r. ⌜ r ≡ degreesOf binary64 (self .0) ⌝ }
     {
@@ -50,12 +54,14 @@ impl RawLatitude {
 }
 
 impl RawLongitude {
+    // Degrees as a float of 32 bits, negative in the west.
     pub fn to_f32(self) -> f32
         ensures { λ r. ⌜ r ≡ degreesOf binary32 (self .0) ⌝ }
     {
         self.0.to_f32()
     }
 
+    // The same of 64 bits.
     pub fn to_f64(self) -> f64
         ensures { λ r. ⌜ r ≡ degreesOf binary64 (self .0) ⌝ }
     {

@@ -3,7 +3,9 @@ ghost use mathlib.Core.Path.{_≡_};
 ghost use Rattle.text.specs.Res.{ok};
 ghost use Rattle.put.specs.Put.{Wrote};
 ghost use Rattle.print.specs.Print.{Prints};
-ghost use Rattle.coord.specs.Coord.{lettered, readLatitude, readLongitude, latitudeIn, longitudeIn, latitudeBy, longitudeBy, newLatitude, newLongitude, latitudeText, longitudeText, latitudeRes, longitudeRes};
+ghost use Rattle.coord.specs.Coord.{lettered, readLatitude, readLongitude, latitudeIn, longitudeIn, latitudeBy};
+ghost use Rattle.coord.specs.Coord.{longitudeBy, newLatitude, newLongitude, latitudeText, longitudeText};
+ghost use Rattle.coord.specs.Coord.{latitudeRes, longitudeRes};
 use crate::Compass;
 use crate::CoordRead;
 use crate::LatitudeRead;
@@ -16,6 +18,7 @@ use print::printed::Printed;
 use text::refusal::Refusal;
 
 impl RawLatitude {
+    // A latitude of degrees to 90 and N or S.
     pub fn new(degrees: u8, thousandths: u16, sign: Compass) -> LatitudeRead
         ensures { λ r. ⌜ latitudeRes r ≡ newLatitude degrees thousandths sign ⌝ }
     {
@@ -49,6 +52,7 @@ impl RawLatitude {
         }
     }
 
+    // Reads eight bytes that are known to be ASCII.
     pub fn parse_ascii(text: &[u8]) -> LatitudeRead
         ensures { λ r. ⌜ latitudeRes r ≡ latitudeIn (now (text .entry)) ⌝ }
     {
@@ -58,6 +62,7 @@ impl RawLatitude {
         }
     }
 
+    // Reads a latitude of eight bytes.
     pub fn parse(text: &[u8]) -> LatitudeRead
         ensures { λ r. ⌜ latitudeRes r ≡ readLatitude (now (text .entry)) ⌝ }
     {
@@ -70,12 +75,14 @@ impl RawLatitude {
         RawLatitude::parse_ascii(text)
     }
 
+    // The text as a piece, from a place on.
     pub fn put(self, buf: &mut [u8], at: usize) -> usize
         ensures { λ r. ⌜ Wrote (now (buf .entry)) at (latitudeText self) (now (buf .exit)) r ⌝ }
     {
-        self.0.put(2, buf, at)
+        self.0.put(buf, at, 2)
     }
 
+    // Prints it.
     pub fn print(self, buf: &mut [u8]) -> Printed
         ensures { λ r. ⌜ Prints (ok (latitudeText self)) (now (buf .entry)) (now (buf .exit)) r ⌝ }
     {
@@ -87,6 +94,7 @@ impl RawLatitude {
 }
 
 impl RawLongitude {
+    // A longitude of degrees to 180 and E or W.
     pub fn new(degrees: u8, thousandths: u16, sign: Compass) -> LongitudeRead
         ensures { λ r. ⌜ longitudeRes r ≡ newLongitude degrees thousandths sign ⌝ }
     {
@@ -120,6 +128,7 @@ impl RawLongitude {
         }
     }
 
+    // Reads nine bytes that are known to be ASCII.
     pub fn parse_ascii(text: &[u8]) -> LongitudeRead
         ensures { λ r. ⌜ longitudeRes r ≡ longitudeIn (now (text .entry)) ⌝ }
     {
@@ -129,6 +138,7 @@ impl RawLongitude {
         }
     }
 
+    // Reads a longitude of nine bytes.
     pub fn parse(text: &[u8]) -> LongitudeRead
         ensures { λ r. ⌜ longitudeRes r ≡ readLongitude (now (text .entry)) ⌝ }
     {
@@ -141,12 +151,14 @@ impl RawLongitude {
         RawLongitude::parse_ascii(text)
     }
 
+    // The text as a piece, from a place on.
     pub fn put(self, buf: &mut [u8], at: usize) -> usize
         ensures { λ r. ⌜ Wrote (now (buf .entry)) at (longitudeText self) (now (buf .exit)) r ⌝ }
     {
-        self.0.put(3, buf, at)
+        self.0.put(buf, at, 3)
     }
 
+    // Prints it.
     pub fn print(self, buf: &mut [u8]) -> Printed
         ensures { λ r. ⌜ Prints (ok (longitudeText self)) (now (buf .entry)) (now (buf .exit)) r ⌝ }
     {

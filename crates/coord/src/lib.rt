@@ -8,7 +8,8 @@ ghost use Prim.Native.Nat.{_+_, _≤_};
 ghost use Rattle.text.specs.Res.{_=?_, _∨?_};
 ghost use Rattle.field.specs.Field.{sized};
 ghost use Rattle.put.specs.Put.{Wrote};
-ghost use Rattle.coord.specs.Coord.{letterOf, signOf, coordOf, lettered, readCoord, newCoord, coordText, coordBook, compassRes, coordRes};
+ghost use Rattle.coord.specs.Coord.{compassLetter, signOf, coordOf, lettered, readCoord, newCoord, coordText};
+ghost use Rattle.coord.specs.Coord.{coordBook, compassRes, coordRes};
 use print::number::put_nat;
 use put::put_byte;
 use text::number::U8Read;
@@ -56,8 +57,9 @@ pub enum LongitudeRead {
 }
 
 impl Compass {
+    // N, S, E or W.
     pub fn letter(self) -> u8
-        ensures { λ r. ⌜ r ≡ letterOf self ⌝ }
+        ensures { λ r. ⌜ r ≡ compassLetter self ⌝ }
     {
         match self {
             Compass::North => b'N',
@@ -83,7 +85,7 @@ fn sign_of(letter: u8, x: Compass, y: Compass) -> CompassRead
 
 // The direction is x or y.
 fn one_of(sign: Compass, x: Compass, y: Compass) -> bool
-    ensures { λ r. ⌜ r ≡ ((letterOf sign =? letterOf x) ∨? (letterOf sign =? letterOf y)) ⌝ }
+    ensures { λ r. ⌜ r ≡ ((compassLetter sign =? compassLetter x) ∨? (compassLetter sign =? compassLetter y)) ⌝ }
 {
     let letter = sign.letter();
     if letter == x.letter() {
@@ -171,6 +173,7 @@ impl RawCoord {
         RawCoord::lettered(limit, x, y, degrees, thousandths, text[e])
     }
 
+    // The thousandths are below 60,000.
     pub fn by_the_book(self) -> bool
         ensures { λ r. ⌜ r ≡ coordBook self ⌝ }
     {
@@ -178,12 +181,12 @@ impl RawCoord {
     }
 
     // Degrees in width d.
-    fn put(self, d: usize, buf: &mut [u8], at: usize) -> usize
+    fn put(self, buf: &mut [u8], at: usize, d: usize) -> usize
         ensures { λ r. ⌜ Wrote (now (buf .entry)) at (coordText d self) (now (buf .exit)) r ⌝ }
     {
         let sign = self.sign;
-        let minutes = put_nat(buf, at, self.degrees as u64, d);
-        let letter = put_nat(buf, minutes, self.minute_thousandths as u64, 5);
-        put_byte(buf, letter, sign.letter())
+        let at_minutes = put_nat(buf, at, self.degrees as u64, d);
+        let at_letter = put_nat(buf, at_minutes, self.minute_thousandths as u64, 5);
+        put_byte(buf, at_letter, sign.letter())
     }
 }

@@ -40,6 +40,7 @@ impl RawPosition {
         }
     }
 
+    // Reads a position of seventeen bytes, the latitude first.
     pub fn parse(text: &[u8]) -> PositionRead
         ensures { λ r. ⌜ positionRes r ≡ readPosition (now (text .entry)) ⌝ }
     {
@@ -52,6 +53,7 @@ impl RawPosition {
         RawPosition::parse_ascii(text)
     }
 
+    // Both of its coordinates are by the book.
     pub fn by_the_book(self) -> bool
         ensures { λ r. ⌜ r ≡ positionBook self ⌝ }
     {
@@ -61,6 +63,7 @@ impl RawPosition {
         false
     }
 
+    // The text as a piece, from a place on.
     pub fn put(self, buf: &mut [u8], at: usize) -> usize
         ensures { λ r. ⌜ Wrote (now (buf .entry)) at (positionText self) (now (buf .exit)) r ⌝ }
     {
@@ -68,6 +71,7 @@ impl RawPosition {
         self.lon.put(buf, next)
     }
 
+    // Prints it.
     pub fn print(self, buf: &mut [u8]) -> Printed
         ensures { λ r. ⌜ Prints (ok (positionText self)) (now (buf .entry)) (now (buf .exit)) r ⌝ }
     {

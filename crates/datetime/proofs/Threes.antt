@@ -1,12 +1,7 @@
 -- Three numbers read together, and then something made of them.
-use Prim.Native.Nat.{ℕ}
-use mathlib.Core.Path.{_≡_, refl, sym, _∙_}
-use mathlib.Core.Bool.{Bool, true, false}
-use mathlib.Core.List.{List}
-use Rattle.text.specs.Res.{Res, ok, no, bind, guard}
-use Rattle.text.specs.Number.{readNat}
+use Rattle.text.specs.Prelude.{ℕ, _≡_, Bool, true, false, List, Res, ok, no, bind, guard, columns, readNat}
+use Rattle.text.proofs.Prelude.{refl, sym, _∙_}
 use Rattle.text.specs.declared.refusal.Refusal.{Refusal}
-use Rattle.text.specs.Line.{columns}
 use Rattle.field.specs.Field.{sized}
 use Rattle.datetime.specs.Three.{readThree, together}
 use Rattle.datetime.specs.declared.Three.{Three}
@@ -21,16 +16,18 @@ guard-bind false n m f = refl
 abbrev pub madeBy : {A : Type 0} → (ℕ → ℕ → ℕ → Res A) → Three → Res A
 madeBy make t = make (t .0) (t .1) (t .2)
 
-each : {A : Type 0} (make : ℕ → ℕ → ℕ → Res A) (x y z : Res ℕ)
-    → bind x (λ a. bind y (λ b. bind z (λ c. make a b c))) ≡ bind (bind x (λ a. bind y (λ b. bind z (λ c. together a b c)))) (madeBy make)
+three-each : {A : Type 0} (make : ℕ → ℕ → ℕ → Res A) (x y z : Res ℕ)
+    → bind x (λ a. bind y (λ b. bind z (λ c. make a b c)))
+    ≡ bind (bind x (λ a. bind y (λ b. bind z (λ c. together a b c)))) (madeBy make)
 unfolding bind
-each make (ok a) (ok b) (ok c) = refl
-each make (ok a) (ok b) (no n) = refl
-each make (ok a) (no n) z = refl
-each make (no n) y z = refl
+three-each make (ok a) (ok b) (ok c) = refl
+three-each make (ok a) (ok b) (no n) = refl
+three-each make (ok a) (no n) z = refl
+three-each make (no n) y z = refl
 
 pub three-then : {A : Type 0} (make : ℕ → ℕ → ℕ → Res A) (s : List ℕ) →
     bind (sized 6 (readThree together) s) (madeBy make) ≡ sized 6 (readThree make) s
 unfolding sized readThree
 three-then make s =
-    sym (guard-bind _ _ _ (madeBy make)) ∙ rw (each make (columns 0 2 (readNat 255) s) (columns 2 4 (readNat 255) s) (columns 4 6 (readNat 255) s))
+    sym (guard-bind _ _ _ (madeBy make))
+    ∙ rw (three-each make (columns 0 2 (readNat 255) s) (columns 2 4 (readNat 255) s) (columns 4 6 (readNat 255) s))

@@ -1,14 +1,9 @@
 -- Dates: DDMMYY.
-use Prim.Native.Nat.{ℕ}
-use mathlib.Core.List.{List}
-use mathlib.Core.Bool.{Bool}
-use Rattle.text.specs.Res.{Res, ok, no, guard, _≤?_, _∧?_}
+use Rattle.text.specs.Prelude.{ℕ, Bool, List, Res, ok, no, guard, _≤?_, _∧?_}
 use Rattle.text.specs.declared.refusal.Refusal.the-variants.{OutOfRange}
 use Rattle.field.specs.Field.{sized, field}
 use Rattle.datetime.specs.Three.{readThree, threeText}
-use Rattle.datetime.specs.declared.Date.{Date}
-use Rattle.datetime.specs.declared.DateRead.{DateRead}
-use Rattle.datetime.specs.declared.DateRead.the-variants as date
+use Rattle.datetime.specs.declared.{Date.Date, DateRead.DateRead}
 
 -- Day at most 31, month at most 12, zero passes; 4 else.
 unfoldable pub dateOf : ℕ → ℕ → ℕ → Res Date
@@ -34,6 +29,7 @@ newDate d m y =
     guard (dated d m ∧? (y ≤? 99)) OutOfRange
     (ok (record { day = d; month = m; year = y }))
 
+-- Day, month and year, in width 2 each.
 unfoldable pub dateText : Date → List ℕ
 dateText d = threeText (d .day) (d .month) (d .year)
 
@@ -44,5 +40,5 @@ dateBook d = dated (d .day) (d .month)
 -- ---- the answers of the code
 
 abbrev pub dateRes : DateRead → Res Date
-dateRes (date.Ok v) = ok v
-dateRes (date.Refused n) = no n
+dateRes (DateRead.Ok v) = ok v
+dateRes (DateRead.Refused n) = no n

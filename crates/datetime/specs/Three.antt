@@ -1,12 +1,6 @@
 -- What times and dates share: three numbers of two characters each.
-use Prim.Native.Nat.{ℕ}
-use mathlib.Core.List.{List, _++_}
-use Rattle.text.specs.Res.{Res, ok, no, bind}
-use Rattle.text.specs.Number.{readNat, padded}
-use Rattle.text.specs.Line.{columns}
-use Rattle.datetime.specs.declared.Three.{Three}
-use Rattle.datetime.specs.declared.ThreeRead.{ThreeRead}
-use Rattle.datetime.specs.declared.ThreeRead.the-variants as three
+use Rattle.text.specs.Prelude.{ℕ, List, _++_, Res, ok, no, bind, columns, readNat, padded}
+use Rattle.datetime.specs.declared.{Three.Three, ThreeRead.ThreeRead}
 
 -- Three numbers one after the other, all read before anything is made of them.
 unfoldable pub readThree : {A : Type 0} → (ℕ → ℕ → ℕ → Res A) → List ℕ → Res A
@@ -23,8 +17,8 @@ threeText a b c = padded 2 a ++ (padded 2 b ++ padded 2 c)
 -- ---- the answers of the code
 
 abbrev pub threeRes : ThreeRead → Res Three
-threeRes (three.Ok v) = ok v
-threeRes (three.Refused n) = no n
+threeRes (ThreeRead.Ok v) = ok v
+threeRes (ThreeRead.Refused n) = no n
 
 -- The three numbers as the code holds them.
 abbrev pub together : ℕ → ℕ → ℕ → Res Three

@@ -1,14 +1,9 @@
 -- Times: HHMMSS.
-use Prim.Native.Nat.{ℕ, _+_, _*_}
-use mathlib.Core.List.{List}
-use mathlib.Core.Bool.{Bool}
-use Rattle.text.specs.Res.{Res, ok, no, guard, _≤?_, _∧?_}
+use Rattle.text.specs.Prelude.{ℕ, _+_, _*_, Bool, List, Res, ok, no, guard, _≤?_, _∧?_}
 use Rattle.text.specs.declared.refusal.Refusal.the-variants.{OutOfRange}
 use Rattle.field.specs.Field.{sized, field}
 use Rattle.datetime.specs.Three.{readThree, threeText}
-use Rattle.datetime.specs.declared.Time.{Time}
-use Rattle.datetime.specs.declared.TimeRead.{TimeRead}
-use Rattle.datetime.specs.declared.TimeRead.the-variants as time
+use Rattle.datetime.specs.declared.{Time.Time, TimeRead.TimeRead}
 
 -- Hours at most 24, minutes and seconds at most 60; 4 else.
 unfoldable pub timeOf : ℕ → ℕ → ℕ → Res Time
@@ -24,9 +19,11 @@ readTime = field 6 (readThree timeOf)
 unfoldable pub timeIn : List ℕ → Res Time
 timeIn = sized 6 (readThree timeOf)
 
+-- Hours, minutes and seconds, in width 2 each.
 unfoldable pub timeText : Time → List ℕ
 timeText t = threeText (t .hours) (t .minutes) (t .seconds)
 
+-- Seconds since midnight, of any three numbers.
 unfoldable pub secondsOf : Time → ℕ
 secondsOf t = t .hours * 3600 + t .minutes * 60 + t .seconds
 
@@ -37,5 +34,5 @@ timeBook t = (t .hours ≤? 23) ∧? (t .minutes ≤? 59) ∧? (t .seconds ≤? 
 -- ---- the answers of the code
 
 abbrev pub timeRes : TimeRead → Res Time
-timeRes (time.Ok v) = ok v
-timeRes (time.Refused n) = no n
+timeRes (TimeRead.Ok v) = ok v
+timeRes (TimeRead.Refused n) = no n

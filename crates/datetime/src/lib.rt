@@ -70,12 +70,13 @@ fn read_three(text: &[u8]) -> ThreeRead
 fn put_three(buf: &mut [u8], at: usize, a: u8, b: u8, c: u8) -> usize
     ensures { λ r. ⌜ Wrote (now (buf .entry)) at (threeText a b c) (now (buf .exit)) r ⌝ }
 {
-    let second = put_nat(buf, at, a as u64, 2);
-    let third = put_nat(buf, second, b as u64, 2);
-    put_nat(buf, third, c as u64, 2)
+    let at_second = put_nat(buf, at, a as u64, 2);
+    let at_third = put_nat(buf, at_second, b as u64, 2);
+    put_nat(buf, at_third, c as u64, 2)
 }
 
 impl Time {
+    // A time of at most 24, 60 and 60.
     pub fn from_hms(hours: u8, minutes: u8, seconds: u8) -> TimeRead
         ensures { λ r. ⌜ timeRes r ≡ timeOf hours minutes seconds ⌝ }
     {
@@ -103,6 +104,7 @@ impl Time {
         }
     }
 
+    // Reads a time of six bytes.
     pub fn parse(text: &[u8]) -> TimeRead
         ensures { λ r. ⌜ timeRes r ≡ readTime (now (text .entry)) ⌝ }
     {
@@ -115,12 +117,14 @@ impl Time {
         Time::parse_ascii(text)
     }
 
+    // Of any three numbers, also of those that are no time of day.
     pub fn seconds_since_midnight(self) -> u32
         ensures { λ r. ⌜ r ≡ secondsOf self ⌝ }
     {
         self.hours as u32 * 3600 + self.minutes as u32 * 60 + self.seconds as u32
     }
 
+    // A time of day.
     pub fn by_the_book(self) -> bool
         ensures { λ r. ⌜ r ≡ timeBook self ⌝ }
     {
@@ -133,12 +137,14 @@ impl Time {
         self.seconds <= 59
     }
 
+    // The text as a piece, from a place on.
     pub fn put(self, buf: &mut [u8], at: usize) -> usize
         ensures { λ r. ⌜ Wrote (now (buf .entry)) at (timeText self) (now (buf .exit)) r ⌝ }
     {
         put_three(buf, at, self.hours, self.minutes, self.seconds)
     }
 
+    // Prints it.
     pub fn print(self, buf: &mut [u8]) -> Printed
         ensures { λ r. ⌜ Prints (ok (timeText self)) (now (buf .entry)) (now (buf .exit)) r ⌝ }
     {
@@ -164,7 +170,7 @@ impl Date {
     }
 
     // A date in a text that the caller knows to be ASCII: the test is not made again.
-    pub fn parse_ascii(text: &[u8]) -> DateRead
+    fn parse_ascii(text: &[u8]) -> DateRead
         ensures { λ r. ⌜ dateRes r ≡ dateIn (now (text .entry)) ⌝ }
     {
         match read_three(text) {
@@ -185,6 +191,7 @@ impl Date {
         DateRead::Refused(Refusal::OutOfRange)
     }
 
+    // Reads a date of six bytes.
     pub fn parse(text: &[u8]) -> DateRead
         ensures { λ r. ⌜ dateRes r ≡ readDate (now (text .entry)) ⌝ }
     {
@@ -197,6 +204,7 @@ impl Date {
         Date::parse_ascii(text)
     }
 
+    // A day and a month of the calendar.
     pub fn by_the_book(self) -> bool
         ensures { λ r. ⌜ r ≡ dateBook self ⌝ }
     {
@@ -212,12 +220,14 @@ impl Date {
         self.month <= 12
     }
 
+    // The text as a piece, from a place on.
     pub fn put(self, buf: &mut [u8], at: usize) -> usize
         ensures { λ r. ⌜ Wrote (now (buf .entry)) at (dateText self) (now (buf .exit)) r ⌝ }
     {
         put_three(buf, at, self.day, self.month, self.year)
     }
 
+    // Prints it.
     pub fn print(self, buf: &mut [u8]) -> Printed
         ensures { λ r. ⌜ Prints (ok (dateText self)) (now (buf .entry)) (now (buf .exit)) r ⌝ }
     {

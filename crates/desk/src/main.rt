@@ -1,11 +1,8 @@
 // The desk's program: the listing of a log of any length (`list FILE`), or the fields of its lines (`fields FILE
 // NAME..`). This main reads, calls one proved function and writes what it answered, by `words`.
 //
-// `stdin` beside src/ is a fixed sample of lines of every kind and at every edge, and `stdout` what the Rust of the
-// team's copy wrote for it, in the words of this program: `oracle/vectors` made both, and the check holds this program
-// to them with no Rust at hand. Lines on which the two differ (docs/DIFFERENCES.md) are left out, but for unreadable
-// numbers, which the sample gives the paper's 3. By the book, the table in force and lookup by name are not the Rust's
-// and come from the oracle's glue.
+// The gate runs it with names as arguments: each fix is asked for these in place of the I line's, and after the text
+// stands the 0 that tells that nothing went wrong.
 use words::run_words;
 
 fn main() {

@@ -1,16 +1,10 @@
 -- One definition of an extension: SSEEMMM.
-use Prim.Native.Nat.{ℕ, _+_}
-use mathlib.Core.List.{List, _++_}
-use lib.ListN.{length}
-use Rattle.text.specs.Res.{Res, ok, no, bind, guard, _≤?_, _=?_, _∧?_}
-use Rattle.text.specs.Line.{byte, columns}
-use Rattle.text.specs.Number.{readNat, padded}
+use Rattle.text.specs.Prelude.{ℕ, _+_, List, _++_, length, Res, ok, no, bind, guard, _≤?_, _=?_, _∧?_, byte, columns}
+use Rattle.text.specs.Prelude.{readNat, padded}
 use Rattle.text.specs.declared.refusal.Refusal.the-variants.{Syntax, BadExtension}
 use Rattle.field.specs.Field.{mnemonicText}
 use Rattle.field.specs.declared.Mnemonic.{Mnemonic}
-use Rattle.extension.specs.declared.Extension.{Extension}
-use Rattle.extension.specs.declared.ExtensionRead.{ExtensionRead}
-use Rattle.extension.specs.declared.ExtensionRead.the-variants as ext
+use Rattle.extension.specs.declared.{Extension.Extension, ExtensionRead.ExtensionRead}
 
 -- Start, end, end before start 5, three-byte mnemonic.
 unfoldable pub readDefinition : List ℕ → Res Extension
@@ -18,7 +12,11 @@ readDefinition s =
     bind (columns 0 2 (readNat 255) s) (λ start.
     bind (columns 2 4 (readNat 255) s) (λ end.
     guard (start ≤? end) BadExtension
-    (ok (record { «start_byte» = start; «end_byte» = end; mnemonic = record { 0 = byte 4 s; 1 = byte 5 s; 2 = byte 6 s } }))))
+    (ok (record {
+      «start_byte» = start;
+      «end_byte» = end;
+      mnemonic = record { 0 = byte 4 s; 1 = byte 5 s; 2 = byte 6 s };
+    }))))
 
 -- One definition by itself: a length other than 7 is 1, and there is no ASCII test.
 unfoldable pub readExtension : List ℕ → Res Extension
@@ -37,5 +35,5 @@ extensionText e = padded 2 (e .«start_byte») ++ (padded 2 (e .«end_byte») ++
 -- ---- the answers of the code
 
 abbrev pub extensionRes : ExtensionRead → Res Extension
-extensionRes (ext.Ok v) = ok v
-extensionRes (ext.Refused n) = no n
+extensionRes (ExtensionRead.Ok v) = ok v
+extensionRes (ExtensionRead.Refused n) = no n

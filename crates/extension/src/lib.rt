@@ -44,6 +44,7 @@ impl Extension {
         ExtensionRead::Refused(Refusal::BadExtension)
     }
 
+    // Reads a definition of seven bytes.
     pub fn parse(text: &[u8]) -> ExtensionRead
         ensures { λ r. ⌜ extensionRes r ≡ readExtension (now (text .entry)) ⌝ }
     {
@@ -68,15 +69,17 @@ impl Extension {
         })
     }
 
+    // The text as a piece, from a place on.
     pub fn put(self, buf: &mut [u8], at: usize) -> usize
         ensures { λ r. ⌜ Wrote (now (buf .entry)) at (extensionText self) (now (buf .exit)) r ⌝ }
     {
         let mnemonic = self.mnemonic;
-        let end = put_nat(buf, at, self.start_byte as u64, 2);
-        let name = put_nat(buf, end, self.end_byte as u64, 2);
-        mnemonic.put(buf, name)
+        let at_end = put_nat(buf, at, self.start_byte as u64, 2);
+        let at_name = put_nat(buf, at_end, self.end_byte as u64, 2);
+        mnemonic.put(buf, at_name)
     }
 
+    // Prints it.
     pub fn print(self, buf: &mut [u8]) -> Printed
         ensures { λ r. ⌜ Prints (ok (extensionText self)) (now (buf .entry)) (now (buf .exit)) r ⌝ }
     {

@@ -1,22 +1,16 @@
 -- ASCII: every byte of it, eight bytes at once, and parts of an ASCII text.
-use Prim.Native.Nat.{ℕ, zero, suc, _+_, _-_, _*_, _/_, _%_, _≤_, _<_}
-use mathlib.Core.Path.{_≡_, refl, sym, _∙_}
-use mathlib.Core.List.{List, [], _∷_}
-use mathlib.Core.Bool.{Bool, true, false}
-use native.Mathlib.Omega.{arith}
+use Rattle.text.specs.Prelude.{ℕ, zero, suc, _+_, _-_, _*_, _/_, _%_, _≤_, _<_, _≡_, Bool, true, false, List, [], _∷_}
+use Rattle.text.specs.Prelude.{length, take, drop, getD, Res, pick, _≤?_, _∧?_, cut}
+use Rattle.text.proofs.Prelude.{arith, refl, sym, _∙_, pass, is≤, isnt≤, holds, fails, both, and}
 use lib.Bits.{bitAnd, and-block, and-high}
 use lib.Dec.{eqb}
-use lib.ListN.{length, take, drop, getD}
 use borrow.Author.Tests.{eq-eqb, ne-eqb}
-use Rattle.text.specs.Res.{Res, pick, _≤?_, _∧?_}
-use Rattle.text.proofs.Steps.{is≤, isnt≤, fails, holds, and, both, pass}
-use Rattle.text.specs.Line.{cut}
 use Rattle.field.specs.Field.{isAscii, asciiIn, ascii}
 use Rattle.field.proofs.Every.{Every, ∧?-assoc, all-at}
 
 pub every-ascii : Every (λ b. b ≤? 127) isAscii
 unfolding isAscii
-every-ascii = record { none = refl; more = λ b s. refl }
+every-ascii = record { all-nil = refl; all-cons = λ b s. refl }
 
 -- ---- eight bytes a turn
 
@@ -31,27 +25,43 @@ pub record Word (w : ℕ) (s : List ℕ) : Type 0 where
 
 pub byte-below : {w high b : ℕ} {s : List ℕ} → w ≡ high * 256 + b → b < 256 → Word high s → Word w (b ∷ s)
 byte-below {high} {b} {s} e l h =
-    record { masked = rw (e, and-block 8 high (high-bits (length s)) b 128 l (omega arith), every-ascii .more b s, ← (h .masked)) (by (b ≤? 127) refl (bitAnd high (high-bits (length s)))) }
+    record {
+      masked = rw (
+        e,
+        and-block 8 high (high-bits (length s)) b 128 l (omega arith),
+        every-ascii .all-cons b s,
+        ←
+            (h .masked),
+      ) (by (b ≤? 127) refl (bitAnd high (high-bits (length s))));
+    }
   where
-    bit : bitAnd b 128 ≡ b / 128 % 2 * 128
-    bit = and-high b 1 7
+    high-bit-of : bitAnd b 128 ≡ b / 128 % 2 * 128
+    high-bit-of = and-high b 1 7
 
     by : (t : Bool) → (b ≤? 127) ≡ t → (x : ℕ) → eqb (x * 256 + bitAnd b 128) 0 ≡ ((b ≤? 127) ∧? eqb x 0)
-    by true t zero = let k : b ≤ 127 = is≤ t in eq-eqb (0 * 256 + bitAnd b 128) 0 (omega (arith, bit)) ∙ sym (holds t refl)
-    by true t (suc x) = ne-eqb (suc x * 256 + bitAnd b 128) 0 (λ z. omega arith) ∙ sym (holds t (ne-eqb (suc x) 0 (λ z. omega arith)))
-    by false t x = let k : 127 < b = isnt≤ t in let q : b / 128 ≡ 1 = omega arith in ne-eqb (x * 256 + bitAnd b 128) 0 (λ z. omega (arith, rw q at bit)) ∙ sym (fails _ t)
+    by true t zero = let k : b ≤ 127 = is≤ t in eq-eqb (0 * 256 + bitAnd b 128) 0 (omega (arith, high-bit-of))
+        ∙ sym (holds t refl)
+    by true t (suc x) = ne-eqb (suc x * 256 + bitAnd b 128) 0 (λ z. omega arith)
+        ∙ sym (holds t (ne-eqb (suc x) 0 (λ z. omega arith)))
+    by false t x = let k : 127 < b = isnt≤ t in let q : b / 128 ≡ 1 = omega arith in ne-eqb (x * 256 + bitAnd b 128) 0
+        (λ z. omega (arith, rw q at high-bit-of)) ∙ sym (fails _ t)
 
 pub one-byte : {b : ℕ} → b < 256 → Word b (b ∷ [])
-one-byte l = byte-below {high = 0} (omega arith) l (record { masked = sym (every-ascii .none) })
+one-byte l = byte-below {high = 0} (omega arith) l (record { masked = sym (every-ascii .all-nil) })
 
 -- a turn over the bytes at i: they and what is left after them are the whole
-pub eight : (s : List ℕ) (i : ℕ) {low t : Bool} → i + 8 ≤ length s → isAscii (drop i s) ≡ t →
-    low ≡ isAscii (getD s i 0 ∷ getD s (i + 1) 0 ∷ getD s (i + 2) 0 ∷ getD s (i + 3) 0 ∷ getD s (i + 4) 0 ∷ getD s (i + 5) 0 ∷ getD s (i + 6) 0 ∷ getD s (i + 7) 0 ∷ []) →
+pub eight-bytes-on : (s : List ℕ) (i : ℕ) {low t : Bool} → i + 8 ≤ length s → isAscii (drop i s) ≡ t →
+    low ≡ isAscii (getD s i 0 ∷ getD s (i + 1) 0 ∷ getD s (i + 2) 0 ∷ getD s (i + 3) 0 ∷ getD s (i + 4) 0 ∷ getD s
+    (i + 5) 0 ∷ getD s (i + 6) 0 ∷ getD s (i + 7) 0 ∷ []) →
     (low ∧? isAscii (drop (i + 8) s)) ≡ t
 unfolding isAscii _∧?_ pick
-eight s i h inv e =
+eight-bytes-on s i h inv e =
     simp (e, ∧?-assoc)
-    (sym (all-at every-ascii s i (i + 1) refl (omega arith) (at 1 (omega arith) (at 2 (omega arith) (at 3 (omega arith) (at 4 (omega arith) (at 5 (omega arith) (at 6 (omega arith) (at 7 (omega arith) refl)))))))) ∙ inv)
+    (sym (all-at every-ascii s i (i + 1) refl (omega arith)
+    (at 1 (omega arith)
+    (at 2 (omega arith)
+    (at 3 (omega arith) (at 4 (omega arith) (at 5 (omega arith) (at 6 (omega arith) (at 7 (omega arith) refl))))))))
+    ∙ inv)
   where
     at : (k : ℕ) {rest : Bool} → k < 8 → isAscii (drop (i + (k + 1)) s) ≡ rest →
         isAscii (drop (i + k) s) ≡ ((getD s (i + k) 0 ≤? 127) ∧? rest)

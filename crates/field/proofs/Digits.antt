@@ -1,14 +1,9 @@
 -- Columns of columns, and digits in them.
-use Prim.Native.Nat.{ℕ, zero, suc, _+_, _-_, _≤_, _<_}
-use mathlib.Core.Path.{_≡_, refl, sym}
-use mathlib.Core.Bool.{true}
-use mathlib.Core.List.{List, [], _∷_}
+use Rattle.text.specs.Prelude.{ℕ, zero, suc, _+_, _-_, _≤_, _<_, _≡_, true, List, [], _∷_, take, drop, byte, cut}
+use Rattle.text.specs.Prelude.{allDigits}
+use Rattle.text.proofs.Prelude.{arith, refl, sym, drop-drop, getD-drop, getD-take}
 use native.Mathlib.Nat.{sub-zero, zero-sub, suc-sub-suc}
-use native.Mathlib.Omega.{arith}
-use lib.ListN.{take, drop}
-use lib.Seq.{take-nil, take-take, drop-drop, getD-take, getD-drop}
-use Rattle.text.specs.Line.{byte, cut}
-use Rattle.text.specs.Number.{allDigits}
+use lib.Seq.{take-nil, take-take}
 use Rattle.text.proofs.Decimal.{head-digit, cons-digit}
 
 -- ---- columns of columns
@@ -24,7 +19,13 @@ pub cut-cut : (a b c d : ℕ) (s : List ℕ) → a + d ≤ b → cut c d (cut a 
 unfolding cut
 cut-cut a b c d s h =
     let w : a + d - (a + c) ≡ d - c = omega arith in
-    rw (drop-take c (b - a) (drop a s), take-take (d - c) (b - a - c) (drop c (drop a s)) (omega arith), drop-drop c a s, w)
+    rw (
+      drop-take c (b - a) (drop a s),
+      take-take (d - c) (b - a - c) (drop c (drop a s)) (omega arith),
+      drop-drop c a
+          s,
+      w,
+    )
 
 pub byte-cut : (a b c : ℕ) (s : List ℕ) → a + c < b → byte c (cut a b s) ≡ byte (a + c) s
 unfolding cut
@@ -36,7 +37,8 @@ take-digits : (n : ℕ) (s : List ℕ) → allDigits s ≡ true → allDigits (t
 unfolding allDigits
 take-digits zero s h = refl
 take-digits (suc n) [] h = refl
-take-digits (suc n) (b ∷ s) h = let k = head-digit b s h in cons-digit b (take n s) (k .0) (k .1) (take-digits n s (k .2))
+take-digits (suc n) (b ∷ s) h = let k = head-digit b s h in cons-digit b (take n s) (k .0) (k .1)
+    (take-digits n s (k .2))
 
 drop-digits : (n : ℕ) (s : List ℕ) → allDigits s ≡ true → allDigits (drop n s) ≡ true
 unfolding allDigits

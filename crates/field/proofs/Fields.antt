@@ -1,13 +1,7 @@
 -- The three ways in which a field's reading begins.
-use Prim.Native.Nat.{ℕ}
-use mathlib.Core.Path.{_≡_}
-use mathlib.Core.List.{List}
-use mathlib.Core.Bool.{true, false}
-use lib.ListN.{length}
-use Rattle.text.specs.Res.{Res, no}
+use Rattle.text.specs.Prelude.{ℕ, _≡_, true, false, List, length, Res, no, cut, columns}
+use Rattle.text.proofs.Prelude.{pass, stop, yes=, no=}
 use Rattle.text.specs.declared.refusal.Refusal.the-variants.{NotAscii, WrongLength}
-use Rattle.text.proofs.Steps.{pass, stop, no=, yes=}
-use Rattle.text.specs.Line.{cut, columns}
 use Rattle.field.specs.Field.{isAscii, sized, asciiIn, ascii, field}
 use Rattle.field.proofs.Ascii.{cut-ascii, known-ascii}
 
@@ -21,12 +15,12 @@ module _ {A : Type 0} (n : ℕ) (read : List ℕ → Res A) (s : List ℕ) where
   not-ascii l h = pass _ (yes= l) (stop _ h)
 
   -- in an ASCII text the test says nothing
-  pub known : isAscii s ≡ true → sized n read s ≡ field n read s
+  pub field-of-ascii : isAscii s ≡ true → sized n read s ≡ field n read s
   unfolding field sized
-  known h = rw (known-ascii read s h)
+  field-of-ascii h = rw (known-ascii read s h)
 
 -- in the columns of an ASCII line it says nothing either
-pub known-columns : {A : Type 0} (a b n : ℕ) (read : List ℕ → Res A) (s : List ℕ) → isAscii s ≡ true →
+pub columns-of-ascii : {A : Type 0} (a b n : ℕ) (read : List ℕ → Res A) (s : List ℕ) → isAscii s ≡ true →
     columns a b (sized n read) s ≡ columns a b (field n read) s
 unfolding columns
-known-columns a b n read s h = known n read (cut a b s) (cut-ascii a b s h)
+columns-of-ascii a b n read s h = field-of-ascii n read (cut a b s) (cut-ascii a b s h)

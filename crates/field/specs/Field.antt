@@ -1,9 +1,6 @@
 -- What every field is read by: its length, ASCII, and its columns.
-use Prim.Native.Nat.{ℕ, _-_}
-use mathlib.Core.Bool.{Bool, true}
-use mathlib.Core.List.{List, [], _∷_, _++_}
-use lib.ListN.{length, take, drop}
-use Rattle.text.specs.Res.{Res, guard, _≤?_, _=?_, _∧?_}
+use Rattle.text.specs.Prelude.{ℕ, Bool, true, List, [], _∷_, _++_, length, Res, guard, _≤?_, _=?_}
+use Rattle.text.specs.Prelude.{_∧?_}
 use Rattle.text.specs.declared.refusal.Refusal.the-variants.{NotAscii, WrongLength}
 use Rattle.field.specs.declared.Mnemonic.{Mnemonic}
 

@@ -12,12 +12,13 @@ use put::put_byte;
 pub struct Mnemonic(pub u8, pub u8, pub u8);
 
 impl Mnemonic {
+    // Its three bytes as a piece, from a place on.
     pub fn put(self, buf: &mut [u8], at: usize) -> usize
         ensures { λ r. ⌜ Wrote (now (buf .entry)) at (mnemonicText self) (now (buf .exit)) r ⌝ }
     {
-        let second = put_byte(buf, at, self.0);
-        let third = put_byte(buf, second, self.1);
-        put_byte(buf, third, self.2)
+        let at_second = put_byte(buf, at, self.0);
+        let at_third = put_byte(buf, at_second, self.1);
+        put_byte(buf, at_third, self.2)
     }
 }
 

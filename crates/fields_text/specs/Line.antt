@@ -1,7 +1,5 @@
 -- A line of the program `fields`, and the whole text.
-use Prim.Native.Nat.{ℕ}
-use mathlib.Core.List.{List, [], _∷_, _++_}
-use Rattle.text.specs.Res.{Res, ok, no, pick, _=?_}
+use Rattle.text.specs.Prelude.{ℕ, code, List, [], _∷_, _++_, Res, ok, no, pick, _=?_, LF}
 use Rattle.records.specs.Record.{recordTable, recordPiece, recordBook, acceptedAs}
 use Rattle.records.specs.declared.Record.{Record}
 use Rattle.log.specs.Log.{readings}
@@ -14,11 +12,11 @@ use Rattle.record_text.specs.Record.{recordShown}
 
 -- `y` or `n` for by the book; a line answered 11 or 12 has no verdict.
 unfoldable pub bookShown : Record → List ℕ
-bookShown r = pick (acceptedAs r =? 0) (pick (recordBook r) (byteShown 121) (byteShown 110)) []
+bookShown r = pick (acceptedAs r =? 0) (pick (recordBook r) (byteShown (code "y")) (byteShown (code "n"))) []
 
 -- ` =` directly followed by the record as printed.
 unfoldable pub printedShown : List ℕ → List ℕ
-printedShown printed = (32 ∷ []) ++ ((61 ∷ []) ++ printed)
+printedShown printed = (code " " ∷ []) ++ ((code "=" ∷ []) ++ printed)
 
 -- What is seen of an accepted line s: its fields, the verdict, and the record as printed.
 unfoldable pub seen : Record → Held → List ℕ → List ℕ → List ℕ
@@ -34,7 +32,7 @@ fieldsShown (no n) h names s = []
 -- Line n with the text s, answered m, at which h is in force: number, letter and answer as in the listing, then its
 -- fields.
 unfoldable pub fieldsLine : ℕ → List ℕ → Res Record → Held → List ℕ → List ℕ
-fieldsLine n s m h names = headText n s m ++ (fieldsShown m h names s ++ (10 ∷ []))
+fieldsLine n s m h names = headText n s m ++ (fieldsShown m h names s ++ (LF ∷ []))
 
 -- The line of a reading, with the names asked for.
 unfoldable pub fieldsOf : List ℕ → Line-read → List ℕ

@@ -5,57 +5,60 @@ ghost use Rattle.fields_text.specs.Line.{bookShown, printedShown, seen, 
 use held::Held;
 use listing_text::put_head;
 use put::put_byte;
-use record_text::piece::put_raw;
-use record_text::record::put_record;
+use record_text::piece::show_byte;
+use record_text::record::show_record;
 use records::Reading;
 use records::Record;
 use table::Table;
 
 // `y` or `n` for by the book; nothing of a line that is not read.
-fn put_book(rec: Record, buf: &mut [u8], at: usize) -> usize
+fn put_book(buf: &mut [u8], at: usize, rec: Record) -> usize
     ensures { λ r. ⌜ Wrote (now (buf .entry)) at (bookShown rec) (now (buf .exit)) r ⌝ }
 {
     if rec.number() != 0 {
         return at;
     }
     if rec.by_the_book() {
-        return put_raw(b'y', buf, at);
+        return show_byte(buf, at, b'y');
     }
-    put_raw(b'n', buf, at)
+    show_byte(buf, at, b'n')
 }
 
 // The record as printed, behind ` =`.
-fn put_printed(rec: Record, table: Table, line: &[u8], buf: &mut [u8], at: usize) -> usize
-    ensures { λ r. ⌜ Wrote (now (buf .entry)) at (printedShown (recordPiece rec table (now (line .entry)))) (now (buf .exit)) r ⌝ }
+fn put_printed(buf: &mut [u8], at: usize, rec: Record, table: Table, line: &[u8]) -> usize
+    ensures { λ r. ⌜ Wrote (now (buf .entry)) at (printedShown (recordPiece rec table (now (line .entry))))
+        (now (buf .exit)) r ⌝ }
 {
-    let sign = put_byte(buf, at, b' ');
-    let text = put_byte(buf, sign, b'=');
-    rec.put_piece(table, line, buf, text)
+    let at_sign = put_byte(buf, at, b' ');
+    let at_text = put_byte(buf, at_sign, b'=');
+    rec.put_piece(buf, at_text, table, line)
 }
 
 // What is seen of an accepted line.
-fn put_seen(rec: Record, held: Held, names: &[u8], line: &[u8], buf: &mut [u8], at: usize) -> usize
-    ensures { λ r. ⌜ Wrote (now (buf .entry)) at (seen rec held (now (names .entry)) (now (line .entry))) (now (buf .exit)) r ⌝ }
+fn put_seen(buf: &mut [u8], at: usize, rec: Record, held: Held, names: &[u8], line: &[u8]) -> usize
+    ensures { λ r. ⌜ Wrote (now (buf .entry)) at (seen rec held (now (names .entry)) (now (line .entry)))
+        (now (buf .exit)) r ⌝ }
 {
     let table = rec.table(line);
-    let book = put_record(rec, table, held, names, line, buf, at);
-    let sign = put_book(rec, buf, book);
-    put_printed(rec, table, line, buf, sign)
+    let at_book = show_record(buf, at, rec, table, held, names, line);
+    let at_sign = put_book(buf, at_book, rec);
+    put_printed(buf, at_sign, rec, table, line)
 }
 
 // The fields of a reading; a refused line has none.
 fn put_fields(
+    buf: &mut [u8],
+    at: usize,
     reading: Reading,
     held: Held,
     names: &[u8],
     line: &[u8],
-    buf: &mut [u8],
-    at: usize,
 ) -> usize
-    ensures { λ r. ⌜ Wrote (now (buf .entry)) at (fieldsShown (readingRes reading) held (now (names .entry)) (now (line .entry))) (now (buf .exit)) r ⌝ }
+    ensures { λ r. ⌜ Wrote (now (buf .entry)) at (fieldsShown (readingRes reading) held (now (names .entry))
+        (now (line .entry))) (now (buf .exit)) r ⌝ }
 {
     match reading {
-        Reading::Accepted(record) => put_seen(record, held, names, line, buf, at),
+        Reading::Accepted(record) => put_seen(buf, at, record, held, names, line),
         Reading::Refused(_) => at,
     }
 }
@@ -63,17 +66,18 @@ fn put_fields(
 // The line with this number, as it was read: what `held` has in force at it, and the names asked for (three bytes each;
 // none: the table's).
 pub fn put_line(
+    buf: &mut [u8],
+    at: usize,
     number: u64,
     line: &[u8],
     reading: Reading,
     held: Held,
     names: &[u8],
-    buf: &mut [u8],
-    at: usize,
 ) -> usize
-    ensures { λ r. ⌜ Wrote (now (buf .entry)) at (fieldsLine number (now (line .entry)) (readingRes reading) held (now (names .entry))) (now (buf .exit)) r ⌝ }
+    ensures { λ r. ⌜ Wrote (now (buf .entry)) at (fieldsLine number (now (line .entry)) (readingRes reading) held
+        (now (names .entry))) (now (buf .exit)) r ⌝ }
 {
-    let fields = put_head(number, line, reading, buf, at);
-    let end = put_fields(reading, held, names, line, buf, fields);
-    put_byte(buf, end, b'\n')
+    let at_fields = put_head(buf, at, number, line, reading);
+    let at_end = put_fields(buf, at_fields, reading, held, names, line);
+    put_byte(buf, at_end, b'\n')
 }

@@ -1,14 +1,9 @@
 -- Lent bytes that are filled by calls of `read`, each behind what came before.
-use Prim.Native.Nat.{ℕ, _+_, _≤_}
-use mathlib.Core.Path.{_≡_, refl, sym, ap, _∙_}
-use mathlib.Core.List.{List}
-use native.Mathlib.Omega.{arith}
-use lib.ListN.{length, take}
+use Rattle.text.specs.Prelude.{ℕ, _≤_, _≡_, List, length, take}
+use Rattle.text.proofs.Prelude.{arith, refl, sym, ap, _∙_}
 use lib.Seq.{take-take}
 use Rattle.files.specs.Input.{CameBehind, FilledBehind, Within}
-use Rattle.files.specs.declared.call.Did.{Did}
-use Rattle.files.specs.declared.input.Filled.{Filled}
-use Rattle.files.specs.declared.input.Filled.the-variants as filled
+use Rattle.files.specs.declared.{call.Did.Did, input.Filled.Filled}
 
 -- So far they are filled up to a place.
 pub record Filling (from : ℕ) (b₀ b : List ℕ) (at : ℕ) : Type 0 where
@@ -21,13 +16,13 @@ at-start = record { long = refl; front = refl; behind = omega arith }
 
 module _ {from at : ℕ} {b₀ b : List ℕ} (f : Filling from b₀ b at) where
   -- they are full
-  pub full : FilledBehind from b₀ b filled.Full
+  pub full : FilledBehind from b₀ b Filled.Full
   full = record { long = f .long; front = f .front; inside = tt }
 
-  pub failed : FilledBehind from b₀ b filled.Failed
+  pub failed : FilledBehind from b₀ b Filled.Failed
   failed = record { long = f .long; front = f .front; inside = tt }
 
-  pub ended : at ≤ length b → FilledBehind from b₀ b (filled.Ended at)
+  pub ended : at ≤ length b → FilledBehind from b₀ b (Filled.Ended at)
   ended h = record { long = f .long; front = f .front; inside = (f .behind, omega (arith, f .long)) }
 
   inside : (l : List ℕ) → take from (take at l) ≡ take from l
@@ -44,7 +39,7 @@ module _ {from at : ℕ} {b₀ b : List ℕ} (f : Filling from b₀ b at) where
 -- ---- what a caller goes on with
 
 -- where the input ended is inside
-pub within : (r : Filled) {from : ℕ} {b b′ : List ℕ} → FilledBehind from b b′ r → Within r b′
-within (filled.Ended n) f = omega (arith, f .inside .1, f .long)
-within filled.Full f = tt
-within filled.Failed f = tt
+pub ended-inside : (r : Filled) {from : ℕ} {b b′ : List ℕ} → FilledBehind from b b′ r → Within r b′
+ended-inside (Filled.Ended n) f = omega (arith, f .inside .1, f .long)
+ended-inside Filled.Full f = tt
+ended-inside Filled.Failed f = tt

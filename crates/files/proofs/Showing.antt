@@ -1,12 +1,10 @@
 -- A text made visible, byte by byte.
-use Prim.Native.Nat.{ℕ, _+_, _≤_, _<_}
-use mathlib.Core.Path.{_≡_, refl, sym, ap, _∙_}
-use mathlib.Core.List.{List, map, append-nil}
+use Rattle.text.specs.Prelude.{ℕ, _+_, _≤_, _<_, _≡_, List, map, length, getD, set}
+use Rattle.text.proofs.Prelude.{arith, refl, sym, ap, _∙_, append-nil, drop-of-length-le, take-all, getD-drop}
 use native.Mathlib.Nat.{zero-add}
-use native.Mathlib.Omega.{arith}
 use native.Mathlib.Numerals.{add-one}
-use lib.ListN.{length, drop, set, getD, length-set, length-map, List·getD-map, drop-of-length-le}
-use lib.Seq.{paste, paste-zero, paste-suc, drop-paste, getD-drop, take-all}
+use lib.ListN.{length-set, length-map, List·getD-map}
+use lib.Seq.{paste, paste-zero, paste-suc, drop-paste}
 use Rattle.files.specs.Terminal.{visible}
 
 -- The first i bytes are, and those behind are as they were.

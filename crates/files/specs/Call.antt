@@ -1,10 +1,5 @@
 -- What one call of `read` or of `write` did.
-use Prim.Native.Nat.{ℕ, zero, suc, _+_, _≤_}
-use mathlib.Core.Bool.{Bool, false}
-use mathlib.Core.List.{List}
-use lib.ListN.{length}
-use lib.IntN.{ℤ, pos, negsuc}
-use Rattle.text.specs.Res.{pick, _=?_}
+use Rattle.text.specs.Prelude.{ℕ, zero, suc, _+_, _≤_, Bool, false, List, length, ℤ, pos, negsuc, pick, _=?_}
 use Rattle.files.specs.declared.call.Did.{Did}
 use Rattle.files.specs.declared.call.Did.the-variants.{Bytes, Nothing, Again, Closed, Failed}
 
@@ -21,9 +16,9 @@ didOf (pos (suc n)) errno = Bytes (suc n)
 didOf (negsuc k) errno = pick (isErrno 4 errno) Again (pick (isErrno 32 errno) Closed Failed)
 
 -- No more bytes were moved than there are from the place on.
-abbrev pub Inside : ℕ → List ℕ → Did → Type 0
-Inside at b (Bytes n) = at + n ≤ length b
-Inside at b Nothing = Unit
-Inside at b Again = Unit
-Inside at b Closed = Unit
-Inside at b Failed = Unit
+abbrev pub NoMoreThan : ℕ → List ℕ → Did → Type 0
+NoMoreThan at b (Bytes n) = at + n ≤ length b
+NoMoreThan at b Nothing = Unit
+NoMoreThan at b Again = Unit
+NoMoreThan at b Closed = Unit
+NoMoreThan at b Failed = Unit

@@ -57,6 +57,7 @@ impl Outcome {
         }
     }
 
+    // By what became of the text.
     pub fn of_written(written: Written) -> Outcome
         ensures { λ r. ⌜ r ≡ outcomeOf written ⌝ }
     {

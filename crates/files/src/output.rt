@@ -1,7 +1,7 @@
 // Writing a text to a descriptor.
 ghost use Prim.Native.Nat.{_≤_};
 ghost use lib.ListN.{length};
-ghost use Rattle.files.specs.Call.{Inside};
+ghost use Rattle.files.specs.Call.{NoMoreThan};
 ghost use Rattle.files.specs.Output.{WrittenOf};
 use crate::call::Did;
 use crate::call::did_by;
@@ -16,7 +16,7 @@ pub enum Written {
 // One call, of the text from a place on.
 fn write_some(fd: i32, text: &[u8], at: usize) -> Did
     requires { ⌜ at ≤ length (now text) ⌝ }
-    ensures { λ r. ⌜ Inside at (now (text .entry)) r ⌝ }
+    ensures { λ r. ⌜ NoMoreThan at (now (text .entry)) r ⌝ }
 {
     let got = libc::write(fd, &text[at..]);
     did_by(got, os::errno())

@@ -1,9 +1,9 @@
 // "Lines" and "Extension values": each line is read and printed again.
-use crate::say;
 use b_record::BRead;
 use b_record::BRecord;
 use extension::Extension;
 use field::Mnemonic;
+use gate_say as say;
 use part::Found;
 use records::Reading;
 use records::Record;
@@ -48,6 +48,7 @@ fn value(start: u8, end: u8) {
     }
 }
 
+// First bytes, and A and H lines.
 pub fn first() {
     line(b"");
     line(b"AFLA123");
@@ -60,6 +61,7 @@ pub fn first() {
     line(b"\xff");
 }
 
+// B lines.
 pub fn fixes() {
     line(b"B1015304712345N01102500EA0152301561035");
     line(b"B1015314712345N01102500EA01523x1561035");
@@ -71,6 +73,7 @@ pub fn fixes() {
     line(b"B1015304712345N01102500EV0152301561\xe9");
 }
 
+// I and J lines.
 pub fn tables() {
     line(b"I00");
     line(b"I01");
@@ -80,6 +83,7 @@ pub fn tables() {
     line(b"I013636FXAx");
 }
 
+// C lines.
 pub fn tasks() {
     line(b"C2307180");
     line(b"C230718092044000000000204Foo task");
@@ -88,6 +92,7 @@ pub fn tasks() {
     line(b"C5111359N0010189");
 }
 
+// Values of extensions.
 pub fn values() {
     value(36, 38);
     value(35, 38);

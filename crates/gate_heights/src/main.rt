@@ -55,13 +55,13 @@ fn listing(line: &[u8]) {
 fn fields(line: &[u8]) {
     let mut text = [0u8; 256];
     let n = put_line(
+        &mut text,
+        0,
         1,
         line,
         Record::parse_line(line),
         Held::new(),
         b"",
-        &mut text,
-        0,
     );
     io::write_all(1, b"fields: ");
     say(&text, n);

@@ -1,5 +1,8 @@
-// Every text of up to three bytes, read as a number of each type, in two running sums of what came of it. The Rust's
-// own `str::parse` gives the same sums (oracle/numbers); what this writes is held to them in ../stdout.
+// The readings of document 01 of numbers that are run and not proved, each with its answer number. Then every text of
+// up to three bytes, read as a number of each type, in two running sums of what came of it. The Rust's own `str::parse`
+// gives the same sums (oracle/numbers). What this writes is held to ../stdout.
+mod edges;
+
 use print::number::put_i8;
 use print::number::put_i16;
 use print::number::put_nat;
@@ -117,6 +120,10 @@ fn widths(name: &[u8], row: u8) {
 }
 
 fn main() {
+    edges::unsigned();
+    edges::signed();
+    edges::long();
+    edges::printed();
     widths(b"u8", 0);
     widths(b"u16", 1);
     widths(b"i8", 2);

@@ -1,14 +1,7 @@
 -- The first colon of a line, looked for byte by byte: what is left, from i on, is the whole.
-use Prim.Native.Nat.{ℕ, _+_, _≤_, _<_}
-use mathlib.Core.Path.{_≡_}
-use mathlib.Core.Bool.{Bool, true, false}
-use mathlib.Core.List.{List, [], _∷_}
+use Rattle.text.specs.Prelude.{ℕ, _+_, _≤_, _<_, _≡_, Bool, true, false, List, [], _∷_, length, drop, getD, pick, _=?_}
+use Rattle.text.proofs.Prelude.{arith, length-drop, drop-cons, drop-length, yes=, no=}
 use native.Mathlib.Numerals.{add-one}
-use native.Mathlib.Omega.{arith}
-use lib.ListN.{length, drop, getD, length-drop}
-use lib.Seq.{drop-cons, drop-length}
-use Rattle.text.specs.Res.{pick, _=?_}
-use Rattle.text.proofs.Steps.{yes=, no=}
 use Rattle.h_record.specs.HRecord.{colonIn}
 
 module _ (s : List ℕ) (i : ℕ) {n : ℕ} (inv : i + colonIn (drop i s) ≡ n) where
@@ -16,13 +9,13 @@ module _ (s : List ℕ) (i : ℕ) {n : ℕ} (inv : i + colonIn (drop i s) ≡ n)
   unfolding colonIn pick
   here inside h = let e = rw (drop-cons s i 0, yes= h) at inv in omega arith
 
-  pub further : i < length s → (getD s i 0 ≡ 58 → ⊥) → i + 1 + colonIn (drop (i + 1) s) ≡ n
+  pub colon-next : i < length s → (getD s i 0 ≡ 58 → ⊥) → i + 1 + colonIn (drop (i + 1) s) ≡ n
   unfolding colonIn pick
-  further inside h = let e = rw (drop-cons s i 0, no= h) at inv in rw add-one (omega arith)
+  colon-next inside h = let e = rw (drop-cons s i 0, no= h) at inv in rw add-one (omega arith)
 
-  pub nowhere : i ≡ length s → i ≡ n
+  pub colon-nowhere : i ≡ length s → i ≡ n
   unfolding colonIn
-  nowhere e = let z = rw (e, drop-length) at inv in omega arith
+  colon-nowhere e = let z = rw (e, drop-length) at inv in omega arith
 
 -- the first colon is at the end at the latest
 pick-most : (t : Bool) {a b n : ℕ} → a ≤ n → b ≤ n → pick t a b ≤ n

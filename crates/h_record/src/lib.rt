@@ -5,7 +5,8 @@ ghost use lib.ListN.{length, drop};
 ghost use Rattle.part.specs.Part.{findPart, findMaybe, partBytes, maybeBytes, shown, Shows};
 ghost use Rattle.put.specs.Put.{Wrote};
 ghost use Rattle.print.specs.Print.{Prints};
-ghost use Rattle.h_record.specs.HRecord.{sourceByte, sourceOf, colonIn, readH, charText, nameText, dataText, hBody, hText, hRes};
+ghost use Rattle.h_record.specs.HRecord.{sourceByte, sourceOf, colonIn, readH, charText, nameText, dataText};
+ghost use Rattle.h_record.specs.HRecord.{hPiece, hText, hRes};
 use field::is_ascii;
 use part::Found;
 use part::MaybePart;
@@ -35,6 +36,7 @@ pub enum HRead {
 }
 
 impl DataSource {
+    // The source of a byte.
     pub fn from_byte(byte: u8) -> DataSource
         ensures { λ r. ⌜ r ≡ sourceOf byte ⌝ }
     {
@@ -46,6 +48,7 @@ impl DataSource {
         }
     }
 
+    // The byte of a source.
     pub fn to_byte(self) -> u8
         ensures { λ r. ⌜ r ≡ sourceByte self ⌝ }
     {
@@ -74,7 +77,7 @@ fn colon(line: &[u8]) -> usize
 }
 
 // A character as Rust's `char` prints: a source of 128 or more, built by hand, takes two bytes.
-fn put_char(b: u8, buf: &mut [u8], at: usize) -> usize
+fn put_char(buf: &mut [u8], at: usize, b: u8) -> usize
     ensures { λ r. ⌜ Wrote (now (buf .entry)) at (charText b) (now (buf .exit)) r ⌝ }
 {
     if b <= 127 {
@@ -85,23 +88,28 @@ fn put_char(b: u8, buf: &mut [u8], at: usize) -> usize
 }
 
 // A name with its colon; nothing where there is no name.
-fn put_name(name: MaybePart, line: &[u8], buf: &mut [u8], at: usize) -> usize
-    ensures { λ r. ⌜ Wrote (now (buf .entry)) at (nameText name (maybeBytes name (now (line .entry)))) (now (buf .exit)) r ⌝ }
+fn put_name(buf: &mut [u8], at: usize, name: MaybePart, line: &[u8]) -> usize
+    ensures { λ r. ⌜ Wrote (now (buf .entry)) at (nameText name (maybeBytes name (now (line .entry)))) (now (buf .exit))
+        r ⌝ }
 {
     match name {
         MaybePart::Missing => at,
         MaybePart::At(p) => {
-            let colon = put_part(buf, at, line, p);
-            put_byte(buf, colon, b':')
+            let at_colon = put_part(buf, at, line, p);
+            put_byte(buf, at_colon, b':')
         }
     }
 }
 
 impl HRecord {
+    // Reads an H line.
     pub fn parse(line: &[u8]) -> HRead
         ensures { λ r. ⌜ hRes r ≡ readH (now (line .entry)) ⌝ }
     {
         if line.len() < 6 {
+            return HRead::Refused(Refusal::Syntax);
+        }
+        if line[0] != b'H' {
             return HRead::Refused(Refusal::Syntax);
         }
         if !is_ascii(&line[0..5]) {
@@ -137,6 +145,7 @@ impl HRecord {
         mnemonic.view(line)
     }
 
+    // The name, as a part of the caller's own line.
     pub fn friendly_name(self, line: &[u8]) -> &[u8]
         ensures { λ r. ⌜ Shows (line .entry) (shown (findMaybe (self .«friendly_name») (now (line .entry)))) r ⌝ }
     {
@@ -144,6 +153,7 @@ impl HRecord {
         name.view(line)
     }
 
+    // The data, as a part of the caller's own line.
     pub fn data(self, line: &[u8]) -> &[u8]
         ensures { λ r. ⌜ Shows (line .entry) (shown (findPart (self .«data») (now (line .entry)))) r ⌝ }
     {
@@ -152,28 +162,31 @@ impl HRecord {
     }
 
     // The name with its colon, and the data.
-    fn put_data(self, line: &[u8], buf: &mut [u8], at: usize) -> usize
-        ensures { λ r. ⌜ Wrote (now (buf .entry)) at (dataText self (maybeBytes (self .«friendly_name») (now (line .entry))) (partBytes (self .«data») (now (line .entry)))) (now (buf .exit)) r ⌝ }
+    fn put_data(self, buf: &mut [u8], at: usize, line: &[u8]) -> usize
+        ensures { λ r. ⌜ Wrote (now (buf .entry))
+            at (dataText self (maybeBytes (self .«friendly_name») (now (line .entry)))
+            (partBytes (self .«data») (now (line .entry)))) (now (buf .exit)) r ⌝ }
     {
         let name = self.friendly_name;
         let data = self.data;
-        let next = put_name(name, line, buf, at);
+        let next = put_name(buf, at, name, line);
         put_part(buf, next, line, data)
     }
 
     // The text as a piece of a larger one, from a place on: bytes that are too short cut it, and what lies outside the
     // line is left out. `print` is the printer.
-    pub fn put_piece(self, line: &[u8], buf: &mut [u8], at: usize) -> usize
-        ensures { λ r. ⌜ Wrote (now (buf .entry)) at (hBody self (partBytes (self .mnemonic) (now (line .entry))) (maybeBytes (self .«friendly_name») (now (line .entry))) (partBytes (self .«data») (now (line .entry)))) (now (buf .exit)) r ⌝ }
+    pub fn put_piece(self, buf: &mut [u8], at: usize, line: &[u8]) -> usize
+        ensures { λ r. ⌜ Wrote (now (buf .entry)) at (hPiece self (now (line .entry))) (now (buf .exit)) r ⌝ }
     {
         let mnemonic = self.mnemonic;
         let source = self.data_source;
-        let first = put_byte(buf, at, b'H');
-        let second = put_char(source.to_byte(), buf, first);
-        let third = put_part(buf, second, line, mnemonic);
-        self.put_data(line, buf, third)
+        let at_first = put_byte(buf, at, b'H');
+        let at_second = put_char(buf, at_first, source.to_byte());
+        let at_third = put_part(buf, at_second, line, mnemonic);
+        self.put_data(buf, at_third, line)
     }
 
+    // Prints the record beside its line.
     pub fn print(self, line: &[u8], buf: &mut [u8]) -> Printed
         ensures { λ r. ⌜ Prints (hText self (now (line .entry))) (now (buf .entry)) (now (buf .exit)) r ⌝ }
     {
@@ -187,10 +200,10 @@ impl HRecord {
                 Found::At(_name) => match data.find(line) {
                     Found::Refused(no_data) => Printed::Refused(no_data),
                     Found::At(_data) => {
-                        if buf.len() < self.put_piece(line, &mut [], 0) {
+                        if buf.len() < self.put_piece(&mut [], 0, line) {
                             return Printed::Refused(Refusal::NoRoom);
                         }
-                        Printed::Written(self.put_piece(line, buf, 0))
+                        Printed::Written(self.put_piece(buf, 0, line))
                     }
                 },
             },

@@ -1,16 +1,9 @@
 -- Lookup by name: a turn of the loop over a table's definitions, and what a refused line leaves.
-use Prim.Native.Nat.{ℕ, _+_, _≤_, _<_}
-use mathlib.Core.Path.{_≡_, sym}
-use mathlib.Core.Bool.{false}
-use mathlib.Core.List.{List}
+use Rattle.text.specs.Prelude.{ℕ, _+_, _≤_, _<_, _≡_, false, List, length, drop, getD, Res, ok, no, pick}
+use Rattle.text.proofs.Prelude.{sym, drop-of-length-le, drop-cons, length-take-le, getD-take, off, stop}
 use native.Mathlib.Numerals.{add-one}
-use lib.ListN.{length, getD, drop, drop-of-length-le}
-use lib.Seq.{drop-cons, getD-take, length-take-le}
-use Rattle.text.specs.Res.{Res, ok, no, pick}
-use Rattle.text.specs.declared.refusal.Refusal.{Refusal}
-use Rattle.text.specs.declared.refusal.Refusal.the-variants.{NoDefinition}
+use Rattle.text.specs.declared.{refusal.Refusal.Refusal, refusal.Refusal.the-variants.NoDefinition}
 use Rattle.part.specs.declared.Part.{Part}
-use Rattle.text.proofs.Steps.{off, stop}
 use Rattle.field.specs.declared.Mnemonic.{Mnemonic}
 use Rattle.table.specs.Table.{empty, defsOf}
 use Rattle.extension.specs.declared.Extension.{Extension}
@@ -23,7 +16,8 @@ use Rattle.held.specs.declared.Held.{Held}
 module _ (t : Table) (name : Mnemonic) (i : ℕ) (inside : t .count ≤ length (t .defs)) where
   -- the definition at i where it has the name, and else what is left after it
   pub first-or-later : i < t .count
-      → pick (sameName (getD (t .defs) i empty .mnemonic) name) (ok (getD (t .defs) i empty)) (firstNamed name (drop (i + 1) (defsOf t))) ≡ firstNamed name (drop i (defsOf t))
+      → pick (sameName (getD (t .defs) i empty .mnemonic) name) (ok (getD (t .defs) i empty))
+      (firstNamed name (drop (i + 1) (defsOf t))) ≡ firstNamed name (drop i (defsOf t))
   unfolding firstNamed defsOf
   first-or-later more =
       let k : i < length (defsOf t) = rw (length-take-le (t .count) (t .defs) inside) more in
@@ -39,7 +33,8 @@ module _ (t : Table) (name : Mnemonic) (i : ℕ) (inside : t .count ≤ length (
 -- ---- no table
 
 -- with no table in force every lookup is 8
-pub look-none : (base : ℕ) (rest : Part) (h : Held) (name : Mnemonic) (s : List ℕ) → isSet (h .slot) ≡ false → lookUp base rest h name s ≡ no NoDefinition
+pub look-none : (base : ℕ) (rest : Part) (h : Held) (name : Mnemonic) (s : List ℕ) → isSet (h .slot) ≡ false
+    → lookUp base rest h name s ≡ no NoDefinition
 unfolding lookUp define
 look-none base rest h name s none = sym (off _ (stop _ none))
 

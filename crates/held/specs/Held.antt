@@ -1,19 +1,14 @@
 -- What the lines of one letter leave in force, and lookup by name.
-use Prim.Native.Nat.{ℕ}
-use mathlib.Core.Bool.{Bool, true, false}
-use mathlib.Core.List.{List, [], _∷_}
-use lib.ListN.{length}
-use Rattle.text.specs.Res.{Res, ok, no, bind, guard, pick, _≤?_, _=?_, _∧?_}
-use Rattle.text.specs.Line.{begins}
+use Rattle.text.specs.Prelude.{ℕ, Bool, true, false, List, [], _∷_, Res, ok, no, bind, guard, pick, _≤?_, _=?_}
+use Rattle.text.specs.Prelude.{_∧?_, begins}
 use Rattle.text.specs.declared.refusal.Refusal.the-variants.{NoDefinition}
 use Rattle.part.specs.declared.Part.{Part}
 use Rattle.field.specs.declared.Mnemonic.{Mnemonic}
 use Rattle.table.specs.Table.{tableOf, readTable, defsOf}
 use Rattle.extension.specs.Value.{findValue}
 use Rattle.extension.specs.declared.Extension.{Extension}
-use Rattle.held.specs.declared.Slot.{Slot}
+use Rattle.held.specs.declared.{Slot.Slot, Held.Held}
 use Rattle.held.specs.declared.Slot.the-variants.{Empty, Set}
-use Rattle.held.specs.declared.Held.{Held}
 
 -- A table is in force.
 unfoldable pub isSet : Slot → Bool

@@ -1,6 +1,5 @@
 -- The number of an answer.
-use Prim.Native.Nat.{ℕ}
-use mathlib.Core.Path.{_≡_}
+use Rattle.text.specs.Prelude.{ℕ, _≡_}
 use Rattle.records.specs.Record.{answerOf, readingRes}
 use Rattle.records.specs.declared.Reading.{Reading}
 use Rattle.records.specs.declared.Reading.the-variants.{Accepted, Refused}

@@ -1,12 +1,7 @@
 -- The text of the paper's program, by the length of the log.
-use Prim.Native.Nat.{ℕ, _≤_, _<_}
-use mathlib.Core.Path.{_≡_, refl, sym}
-use mathlib.Core.List.{List}
-use native.Mathlib.Omega.{arith}
-use lib.ListN.{length}
-use Rattle.text.specs.Res.{_≤?_}
-use Rattle.text.proofs.Steps.{first, second, yes≤, no≤, is≤, isnt≤}
-use Rattle.log.proofs.Ends.{either}
+use Rattle.text.specs.Prelude.{ℕ, _≤_, _<_, _≡_, List, length, _≤?_}
+use Rattle.text.proofs.Prelude.{arith, refl, sym, first, second, yes≤, no≤, is≤, isnt≤}
+use Rattle.log.proofs.Ends.{by-test}
 use Rattle.listing_text.specs.Listing.{listingText, roomFor}
 use Rattle.listing_text.specs.Paper.{tooLong, paperText, PaperHasRoom}
 use Rattle.listing_text.proofs.Room.{has-room}
@@ -23,6 +18,6 @@ paper-long log h = second _ (no≤ h) refl
 pub paper-has-room : PaperHasRoom
 unfolding roomFor tooLong
 paper-has-room log =
-    either (length log ≤? 65536)
+    by-test (length log ≤? 65536)
     (λ e. rw (sym (paper-short log (is≤ e))) (omega (arith, has-room log (omega (arith, is≤ e)), is≤ e)))
     (λ e. rw (sym (paper-long log (isnt≤ e))) (omega arith))

@@ -1,17 +1,8 @@
 -- The listing of a log has room: 38 characters for each of its lines, 65 for the trailer.
-use Prim.Native.Nat.{ℕ, suc, _+_, _^_, _≤_, _<_}
-use mathlib.Core.Path.{_≡_, refl}
-use mathlib.Core.Bool.{Bool, true, false}
-use mathlib.Core.List.{List, [], _∷_}
-use native.Mathlib.Omega.{arith}
-use lib.ListN.{length, length-append}
-use Rattle.text.specs.Res.{Res, ok, no, pick, numberOf}
-use Rattle.text.specs.Word.{largest}
-use Rattle.text.specs.Line.{byte, cut, columns}
-use Rattle.text.specs.Number.{signed}
+use Rattle.text.specs.Prelude.{ℕ, suc, _+_, _^_, _≤_, _<_, _≡_, Bool, true, false, List, [], _∷_, length, Res, ok, no}
+use Rattle.text.specs.Prelude.{pick, numberOf, byte, cut, columns, largest, signed}
+use Rattle.text.proofs.Prelude.{arith, refl, length-append, is≤}
 use Rattle.text.specs.declared.refusal.Refusal.{Refusal}
-use Rattle.text.specs.declared.refusal.Refusal.the-variants as refusal
-use Rattle.text.proofs.Steps.{is≤}
 use Rattle.text.proofs.Finds.{Finds, finds-ok, finds-bind, finds-guard, finds-pick}
 use Rattle.text.proofs.Decimal.{places-le, length-padded}
 use Rattle.text.proofs.RoundTrip.{int-columns}
@@ -20,7 +11,6 @@ use Rattle.field.specs.Field.{asciiIn, ascii}
 use Rattle.b_record.specs.BRecord.{readHeights, readFix, readB}
 use Rattle.records.specs.Record.{kindOf, readC, readKind, readLine, recordFix, answerFix, acceptedAs}
 use Rattle.records.specs.declared.Record.{Record}
-use Rattle.records.specs.declared.Record.the-variants as rec
 use Rattle.log.specs.Line.{lineText}
 use Rattle.log.specs.Log.{chunks, readFrom, readings}
 use Rattle.log.specs.Fold.{over, texts, Carried, fresh, pastLine}
@@ -29,11 +19,10 @@ use Rattle.held.specs.declared.Held.{Held}
 use Rattle.walk.specs.Readings.{reader}
 use Rattle.walk.proofs.Turns.{one-at-most}
 use Rattle.listing_text.specs.Line.{plain, answered, answerText, headText, fixHeights, heightsOf, listingLine}
-use Rattle.listing_text.specs.Trailer.{isRefusal, forceAfter, nothing, counted, countStep}
-use Rattle.listing_text.specs.Trailer.{offsetText, figures, trailerText}
+use Rattle.listing_text.specs.Trailer.{isRefusal, forceAfter, nothing, counted, countStep, offsetText, figures}
+use Rattle.listing_text.specs.Trailer.{trailerText}
 use Rattle.listing_text.specs.Listing.{lineOf, listed, listingText, roomFor, HasRoom}
-use Rattle.listing_text.specs.declared.trailer.Offset.{Offset}
-use Rattle.listing_text.specs.declared.trailer.Trailer.{Trailer}
+use Rattle.listing_text.specs.declared.{trailer.Offset.Offset, trailer.Trailer.Trailer}
 
 -- a number below 10 ^ (k + 1) has at most k + 1 characters
 plain-le : (k n : ℕ) → n < 10 ^ suc k → length (plain n) ≤ suc k
@@ -41,10 +30,10 @@ unfolding plain
 plain-le k n h = omega (arith, length-padded 1 n, places-le k n h)
 
 -- what both have, the one that is picked has
-picked : {A : Type 0} (P : A → Type 0) (t : Bool) {a b : A} → P a → P b → P (pick t a b)
+picked-has : {A : Type 0} (P : A → Type 0) (t : Bool) {a b : A} → P a → P b → P (pick t a b)
 unfolding pick
-picked P true p q = p
-picked P false p q = q
+picked-has P true p q = p
+picked-has P false p q = q
 
 -- ---- the answer to a line, and its heights
 
@@ -53,8 +42,8 @@ abbrev Short : Res Record → Type 0
 Short m = (answered m ≤ 12) × (length (heightsOf (answerFix m)) ≤ 12)
 
 -- nothing is said of what is found
-any : {A : Type 0} {m : Res A} → Finds m (λ _. Unit)
-any = record { found = λ _ _. tt }
+finds-any : {A : Type 0} {m : Res A} → Finds m (λ _. Unit)
+finds-any = record { found = λ _ _. tt }
 
 -- the heights of a line have 5 characters each
 heights-columns : (s : List ℕ) → 35 ≤ length s
@@ -66,11 +55,11 @@ heights-columns s l =
     finds-ok (omega arith)))
 
 -- a fix is short: each of its heights has a space in front
-fix-short : (s : List ℕ) → Finds (readB s) (λ r. Short (ok (rec.B r)))
+fix-short : (s : List ℕ) → Finds (readB s) (λ r. Short (ok (Record.B r)))
 unfolding readB ascii asciiIn readFix answered acceptedAs answerFix recordFix heightsOf fixHeights
 fix-short s =
     finds-guard _ (λ long. finds-guard _ (λ _.
-    finds-bind any (λ _ _. finds-bind any (λ _ _. finds-bind any (λ _ _.
+    finds-bind finds-any (λ _ _. finds-bind finds-any (λ _ _. finds-bind finds-any (λ _ _.
     finds-bind (heights-columns s (is≤ long)) (λ h e. finds-ok (omega arith, simp length-append (omega arith))))))))
 
 -- a record of any kind is short: only a fix has heights
@@ -78,30 +67,30 @@ kind-short : (b : ℕ) (s : List ℕ) → Finds (readKind (kindOf b) s) (λ r. S
 unfolding kindOf readKind readC answered acceptedAs answerFix recordFix heightsOf
 kind-short b s =
     let P : _ → Type 0 = λ k. Finds (readKind k s) (λ r. Short (ok r)) in
-    picked P _ (finds-bind any (λ _ _. finds-ok (omega arith)))
-    (picked P _ (finds-bind (fix-short s) (λ r h. finds-ok h))
-    (picked P _
+    picked-has P _ (finds-bind finds-any (λ _ _. finds-ok (omega arith)))
+    (picked-has P _ (finds-bind (fix-short s) (λ r h. finds-ok h))
+    (picked-has P _
     (finds-guard _ (λ _.
     finds-pick
-    (λ _. finds-bind any (λ _ _. finds-ok (omega arith)))
-    (λ _. finds-bind any (λ _ _. finds-ok (omega arith)))))
-    (picked P _ (finds-bind any (λ _ _. finds-ok (omega arith)))
-    (picked P _ (finds-bind any (λ _ _. finds-ok (omega arith)))
-    (picked P _ (finds-bind any (λ _ _. finds-ok (omega arith)))
-    (picked P _ (finds-ok (omega arith)) (finds-ok (omega arith))))))))
+    (λ _. finds-bind finds-any (λ _ _. finds-ok (omega arith)))
+    (λ _. finds-bind finds-any (λ _ _. finds-ok (omega arith)))))
+    (picked-has P _ (finds-bind finds-any (λ _ _. finds-ok (omega arith)))
+    (picked-has P _ (finds-bind finds-any (λ _ _. finds-ok (omega arith)))
+    (picked-has P _ (finds-bind finds-any (λ _ _. finds-ok (omega arith)))
+    (picked-has P _ (finds-ok (omega arith)) (finds-ok (omega arith))))))))
 
 -- a refusal has a number of at most two characters
 refusal-le : (n : Refusal) → numberOf n ≤ 12
-refusal-le refusal.Syntax = omega arith
-refusal-le refusal.NotAscii = omega arith
-refusal-le refusal.UnreadableNumber = omega arith
-refusal-le refusal.OutOfRange = omega arith
-refusal-le refusal.BadExtension = omega arith
-refusal-le refusal.MissingExtension = omega arith
-refusal-le refusal.WrongLength = omega arith
-refusal-le refusal.NoDefinition = omega arith
-refusal-le refusal.OutsideLine = omega arith
-refusal-le refusal.NoRoom = omega arith
+refusal-le Refusal.Syntax = omega arith
+refusal-le Refusal.NotAscii = omega arith
+refusal-le Refusal.UnreadableNumber = omega arith
+refusal-le Refusal.OutOfRange = omega arith
+refusal-le Refusal.BadExtension = omega arith
+refusal-le Refusal.MissingExtension = omega arith
+refusal-le Refusal.WrongLength = omega arith
+refusal-le Refusal.NoDefinition = omega arith
+refusal-le Refusal.OutsideLine = omega arith
+refusal-le Refusal.NoRoom = omega arith
 
 -- an answer is short where what it finds is
 found-short : (m : Res Record) → Finds m (λ r. Short (ok r)) → Short m
@@ -141,7 +130,7 @@ line-fits {c} k f h =
     record {
       lines = omega arith;
       refused = omega (arith, one-at-most (isRefusal (readLine (lineText k))));
-      offset = picked P _ (picked P _ (plain-le 19 (c .place) (omega arith)) (omega arith)) (f .offset);
+      offset = picked-has P _ (picked-has P _ (plain-le 19 (c .place) (omega arith)) (omega arith)) (f .offset);
     }
 
 -- ---- the listing

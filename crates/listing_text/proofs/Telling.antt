@@ -1,20 +1,12 @@
 -- The loop over a log that counts and lists its lines.
-use Prim.Native.Nat.{ℕ, _+_, _≤_, _<_}
-use mathlib.Core.Path.{_≡_, refl, sym, _∙_}
-use mathlib.Core.List.{List}
-use native.Mathlib.Omega.{arith}
-use lib.ListN.{length, take}
-use lib.Seq.{take-all}
-use Rattle.text.specs.Res.{Res}
-use Rattle.text.specs.Word.{largest}
-use Rattle.text.proofs.Steps.{first, yes≤, holds}
+use Rattle.text.specs.Prelude.{ℕ, _+_, _≤_, _<_, _≡_, List, length, take, Res, largest}
+use Rattle.text.proofs.Prelude.{arith, refl, sym, _∙_, take-all, first, yes≤, holds}
 use Rattle.part.specs.Part.{partBytes}
 use Rattle.put.specs.Put.{Wrote}
 use Rattle.put.proofs.Writing.{then}
 use Rattle.put.proofs.Writing as writing
 use Rattle.records.specs.Record.{readingRes}
 use Rattle.records.specs.declared.Record.{Record}
-use Rattle.log.specs.Log.{readings}
 use Rattle.log.specs.Fold.{texts, fresh, readOn}
 use Rattle.log.proofs.Pieces.{all-read, no-text}
 use Rattle.log.proofs.Reached as fold
@@ -32,19 +24,21 @@ use Rattle.listing_text.specs.declared.trailer.Trailer.{Trailer}
 -- The lines before the place were counted and written.
 pub record Telling (log b₀ : List ℕ) (at₀ : ℕ) (b : List ℕ) (t : Trailer) (end place : ℕ) : Type 0 where
   pub held : Held
-  pub reached : Reached reader countStep (fresh reader nothing) log place (record { number = t .lines; place = place; held = held; made = t })
+  pub reached : Reached reader countStep (fresh reader nothing) log place
+      (record { number = t .lines; place = place; held = held; made = t })
   pub wrote : Wrote b₀ at₀ (texts lineOf (readOn reader (fresh reader nothing) (take place log))) b end
   pub short : length log ≤ largest
   pub lines : t .lines ≤ place
   pub refused : t .refused ≤ place
 
-pub at-start : (log b : List ℕ) (at : ℕ) → length log ≤ largest → length b < largest → at ≤ largest → Telling log b at b nothing at 0
+pub at-start : (log b : List ℕ) (at : ℕ) → length log ≤ largest → length b < largest → at ≤ largest
+    → Telling log b at b nothing at 0
 unfolding nothing
 at-start log b at short h k = record {
   short = short;
   held = _;
   reached = fold.at-start;
-  wrote = rw (no-text reader lineOf (fresh reader nothing)) (writing.nothing b at h k);
+  wrote = rw (no-text reader lineOf (fresh reader nothing)) (writing.wrote-nothing b at h k);
   lines = omega arith;
   refused = omega arith;
 }
@@ -72,7 +66,8 @@ module _ {log b₀ b : List ℕ} {at₀ end place : ℕ} {t : Trailer} (f : Tell
   -- a line that was counted and then written
   pub line : {g : Got} {l b′ : List ℕ} {to : ℕ} {t′ : Trailer} → place < length log → g ≡ gotAt place log →
       l ≡ partBytes (g .line) log →
-      t′ ≡ tallied t place l (readingRes (g .reading)) → Wrote b end (listingLine (t′ .lines) l (readingRes (g .reading))) b′ to →
+      t′ ≡ tallied t place l (readingRes (g .reading)) → Wrote b end
+      (listingLine (t′ .lines) l (readingRes (g .reading))) b′ to →
       Telling log b₀ at₀ b′ t′ to (g .next)
   unfolding countStep counted lineOf nothing
   line {g} i e v k w =

@@ -1,14 +1,9 @@
 -- A line of the listing. Fields are parted by one space, every printed line is closed by LF.
-use Prim.Native.Nat.{ℕ}
-use mathlib.Core.List.{List, [], _∷_, _++_}
-use Rattle.text.specs.Res.{Res, ok, no, pick, numberOf, _≤?_, _∧?_}
-use Rattle.text.specs.Line.{byte}
-use Rattle.text.specs.Number.{padded}
+use Rattle.text.specs.Prelude.{ℕ, code, List, [], _∷_, _++_, Res, ok, no, pick, numberOf, _≤?_, _∧?_, LF, byte, padded}
 use Rattle.b_record.specs.BRecord.{pressureText, gpsText}
 use Rattle.b_record.specs.declared.BRecord.{BRecord}
 use Rattle.records.specs.Record.{acceptedAs, answerFix}
-use Rattle.records.specs.declared.Record.{Record}
-use Rattle.records.specs.declared.MaybeFix.{MaybeFix}
+use Rattle.records.specs.declared.{Record.Record, MaybeFix.MaybeFix}
 use Rattle.records.specs.declared.MaybeFix.the-variants.{Missing, Fix}
 
 -- A number in plain decimal.
@@ -21,12 +16,12 @@ answered (ok r) = acceptedAs r
 answered (no n) = numberOf n
 
 -- The first byte if A to Z, else `-`.
-unfoldable pub letterOf : List ℕ → ℕ
-letterOf s = pick ((65 ≤? byte 0 s) ∧? (byte 0 s ≤? 90)) (byte 0 s) 45
+unfoldable pub firstLetter : List ℕ → ℕ
+firstLetter s = pick ((code "A" ≤? byte 0 s) ∧? (byte 0 s ≤? code "Z")) (byte 0 s) (code "-")
 
 -- The letter and the answer.
 unfoldable pub answerText : List ℕ → Res Record → List ℕ
-answerText s m = (32 ∷ []) ++ ((letterOf s ∷ []) ++ ((32 ∷ []) ++ plain (answered m)))
+answerText s m = (code " " ∷ []) ++ ((firstLetter s ∷ []) ++ ((code " " ∷ []) ++ plain (answered m)))
 
 -- The line's number, its letter and the answer.
 unfoldable pub headText : ℕ → List ℕ → Res Record → List ℕ
@@ -34,7 +29,7 @@ headText n s m = plain n ++ answerText s m
 
 -- The pressure and GPS heights of a fix, in width 5.
 unfoldable pub fixHeights : BRecord → List ℕ
-fixHeights r = (32 ∷ []) ++ (pressureText 5 (r .«pressure_alt») ++ ((32 ∷ []) ++ gpsText 5 (r .«gps_alt»)))
+fixHeights r = (code " " ∷ []) ++ (pressureText 5 (r .«pressure_alt») ++ ((code " " ∷ []) ++ gpsText 5 (r .«gps_alt»)))
 
 -- The heights of a fix; nothing where there is none.
 unfoldable pub heightsOf : MaybeFix → List ℕ
@@ -43,4 +38,4 @@ heightsOf Missing = []
 
 -- Line n with the text s, answered m: its head, and for an accepted B line its heights.
 unfoldable pub listingLine : ℕ → List ℕ → Res Record → List ℕ
-listingLine n s m = headText n s m ++ (heightsOf (answerFix m) ++ (10 ∷ []))
+listingLine n s m = headText n s m ++ (heightsOf (answerFix m) ++ (LF ∷ []))

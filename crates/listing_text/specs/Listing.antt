@@ -1,8 +1,5 @@
 -- The listing of a log: a line for each reading of a fresh walk, and the trailer over them.
-use Prim.Native.Nat.{ℕ, _+_, _*_, _≤_}
-use mathlib.Core.List.{List, _++_}
-use lib.ListN.{length}
-use Rattle.text.specs.Word.{largest}
+use Rattle.text.specs.Prelude.{ℕ, _+_, _*_, _≤_, List, _++_, length, largest}
 use Rattle.log.specs.Log.{readings}
 use Rattle.log.specs.Fold.{over, texts}
 use Rattle.walk.specs.Readings.{Line-read, reader}
@@ -17,6 +14,7 @@ lineOf x = listingLine (x .number) (x .line) (x .answer)
 unfoldable pub listed : List Line-read → List ℕ
 listed xs = texts lineOf xs ++ trailerText (over countStep nothing xs)
 
+-- The listing of a log.
 unfoldable pub listingText : List ℕ → List ℕ
 listingText log = listed (readings reader log)
 

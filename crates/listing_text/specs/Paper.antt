@@ -1,15 +1,11 @@
 -- The text of the paper's program.
-use Prim.Native.Nat.{ℕ, _≤_}
-use Prim.Native.Char.{code}
-use mathlib.Core.List.{List, [], _∷_}
-use lib.ListN.{length}
-use Rattle.text.specs.Res.{pick, _≤?_}
+use Rattle.text.specs.Prelude.{ℕ, _≤_, code, List, [], _∷_, length, pick, _≤?_, LF}
 use Rattle.listing_text.specs.Listing.{listingText}
 
 -- `too long`, closed by LF.
 unfoldable pub tooLong : List ℕ
 tooLong =
-    code "t" ∷ code "o" ∷ code "o" ∷ code " " ∷ code "l" ∷ code "o" ∷ code "n" ∷ code "g" ∷ 10 ∷ []
+    code "t" ∷ code "o" ∷ code "o" ∷ code " " ∷ code "l" ∷ code "o" ∷ code "n" ∷ code "g" ∷ LF ∷ []
 
 -- The listing of a log of at most 65,536 bytes; of a longer one that it is too long.
 unfoldable pub paperText : List ℕ → List ℕ

@@ -1,16 +1,11 @@
 -- The trailer: T, lines, lines answered 1 to 5, byte offset of the I line in force at the end, or `-`.
-use Prim.Native.Nat.{ℕ, _+_}
-use mathlib.Core.Bool.{Bool}
-use mathlib.Core.List.{List, [], _∷_, _++_}
-use Rattle.text.specs.Res.{Res, pick, _≤?_, _=?_, _∧?_}
-use Rattle.text.specs.Word.{largest}
+use Rattle.text.specs.Prelude.{ℕ, _+_, code, Bool, List, [], _∷_, _++_, Res, pick, _≤?_, _=?_, _∧?_, LF, begins}
+use Rattle.text.specs.Prelude.{largest}
 use Rattle.records.specs.declared.Record.{Record}
-use Rattle.text.specs.Line.{begins}
 use Rattle.walk.specs.Readings.{Line-read}
 use Rattle.listing_text.specs.Line.{plain, answered}
-use Rattle.listing_text.specs.declared.trailer.Offset.{Offset}
+use Rattle.listing_text.specs.declared.{trailer.Offset.Offset, trailer.Trailer.Trailer}
 use Rattle.listing_text.specs.declared.trailer.Offset.the-variants.{Missing, At}
-use Rattle.listing_text.specs.declared.trailer.Trailer.{Trailer}
 
 -- An answer from 1 to 5.
 unfoldable pub isRefusal : Res Record → Bool
@@ -19,7 +14,7 @@ isRefusal m = (1 ≤? answered m) ∧? (answered m ≤? 5)
 -- The I line in force after a line at a place: an accepted line that begins with I is, after a refused one there is
 -- none.
 unfoldable pub forceAfter : Offset → ℕ → List ℕ → Res Record → Offset
-forceAfter o p s m = pick (begins 73 s) (pick (answered m =? 0) (At p) Missing) o
+forceAfter o p s m = pick (begins (code "I") s) (pick (answered m =? 0) (At p) Missing) o
 
 -- Over no readings.
 unfoldable pub nothing : Trailer
@@ -43,13 +38,15 @@ countStep t x = counted t (x .place) (x .line) (x .answer)
 
 -- ---- its text
 
+-- The place, or a dash for none.
 unfoldable pub offsetText : Offset → List ℕ
-offsetText Missing = 45 ∷ []
+offsetText Missing = code "-" ∷ []
 offsetText (At p) = plain p
 
 -- The two counts.
 unfoldable pub figures : Trailer → List ℕ
-figures t = (32 ∷ []) ++ (plain (t .lines) ++ ((32 ∷ []) ++ plain (t .refused)))
+figures t = (code " " ∷ []) ++ (plain (t .lines) ++ ((code " " ∷ []) ++ plain (t .refused)))
 
+-- T, the counts, the place, and an LF.
 unfoldable pub trailerText : Trailer → List ℕ
-trailerText t = (84 ∷ []) ++ (figures t ++ ((32 ∷ []) ++ (offsetText (t .«in_force») ++ (10 ∷ []))))
+trailerText t = (code "T" ∷ []) ++ (figures t ++ ((code " " ∷ []) ++ (offsetText (t .«in_force») ++ (LF ∷ []))))

@@ -11,7 +11,7 @@ use text::refusal::Refusal;
 use walk::turn::read_at;
 
 // What a fresh walk over the log reads, line by line, and the trailer.
-fn put_listing(log: &[u8], buf: &mut [u8], at: usize) -> usize
+fn put_listing(buf: &mut [u8], at: usize, log: &[u8]) -> usize
     ensures { λ r. ⌜ Wrote (now (buf .entry)) at (listingText (now (log .entry))) (now (buf .exit)) r ⌝ }
 {
     let mut trailer = Trailer::new();
@@ -23,7 +23,7 @@ fn put_listing(log: &[u8], buf: &mut [u8], at: usize) -> usize
         let reading = got.reading;
         let line = part.view(log);
         trailer = trailer.after(place, line, reading);
-        end = put_line(trailer.lines, line, reading, buf, end);
+        end = put_line(buf, end, trailer.lines, line, reading);
         place = got.next;
     }
     trailer.put(buf, end)
@@ -45,10 +45,10 @@ pub fn print_listing(log: &[u8], buf: &mut [u8]) -> Printed
     ensures { λ r. ⌜ Prints (ok (listingText (now (log .entry)))) (now (buf .entry)) (now (buf .exit)) r ⌝ }
 {
     if has_room(log.len(), buf.len()) {
-        return Printed::Written(put_listing(log, buf, 0));
+        return Printed::Written(put_listing(buf, 0, log));
     }
-    if buf.len() < put_listing(log, &mut [], 0) {
+    if buf.len() < put_listing(&mut [], 0, log) {
         return Printed::Refused(Refusal::NoRoom);
     }
-    Printed::Written(put_listing(log, buf, 0))
+    Printed::Written(put_listing(buf, 0, log))
 }

@@ -2,7 +2,8 @@
 ghost use mathlib.Core.Path.{_≡_};
 ghost use Rattle.put.specs.Put.{Wrote};
 ghost use Rattle.records.specs.Record.{readingRes};
-ghost use Rattle.listing_text.specs.Trailer.{nothing, isRefusal, tallied, forceAfter, offsetText, figures, trailerText};
+ghost use Rattle.listing_text.specs.Trailer.{nothing, isRefusal, tallied, forceAfter, offsetText, figures};
+ghost use Rattle.listing_text.specs.Trailer.{trailerText};
 use print::number::put_nat;
 use put::put_byte;
 use records::Reading;
@@ -45,6 +46,7 @@ impl Offset {
         self
     }
 
+    // The place, or a dash.
     pub fn put(self, buf: &mut [u8], at: usize) -> usize
         ensures { λ r. ⌜ Wrote (now (buf .entry)) at (offsetText self) (now (buf .exit)) r ⌝ }
     {
@@ -98,10 +100,10 @@ impl Trailer {
     fn put_counts(self, buf: &mut [u8], at: usize) -> usize
         ensures { λ r. ⌜ Wrote (now (buf .entry)) at (figures self) (now (buf .exit)) r ⌝ }
     {
-        let lines = put_byte(buf, at, b' ');
-        let space = put_nat(buf, lines, self.lines, 1);
-        let refused = put_byte(buf, space, b' ');
-        put_nat(buf, refused, self.refused, 1)
+        let at_lines = put_byte(buf, at, b' ');
+        let at_space = put_nat(buf, at_lines, self.lines, 1);
+        let at_refused = put_byte(buf, at_space, b' ');
+        put_nat(buf, at_refused, self.refused, 1)
     }
 
     // T, lines, lines answered 1 to 5, the I line in force; closed by LF.
@@ -109,10 +111,10 @@ impl Trailer {
         ensures { λ r. ⌜ Wrote (now (buf .entry)) at (trailerText self) (now (buf .exit)) r ⌝ }
     {
         let in_force = self.in_force;
-        let counts = put_byte(buf, at, b'T');
-        let space = self.put_counts(buf, counts);
-        let offset = put_byte(buf, space, b' ');
-        let end = in_force.put(buf, offset);
-        put_byte(buf, end, b'\n')
+        let at_counts = put_byte(buf, at, b'T');
+        let at_space = self.put_counts(buf, at_counts);
+        let at_offset = put_byte(buf, at_space, b' ');
+        let at_end = in_force.put(buf, at_offset);
+        put_byte(buf, at_end, b'\n')
     }
 }

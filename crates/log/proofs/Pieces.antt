@@ -1,10 +1,6 @@
 -- The law of pieces holds, for every reader of lines and every step.
-use Prim.Native.Nat.{ℕ, suc, _+_}
-use mathlib.Core.Path.{_≡_, refl, sym, ap, _∙_}
-use mathlib.Core.Bool.{true}
-use mathlib.Core.List.{List, [], _∷_, _++_, append-assoc, append-nil}
-use native.Mathlib.Omega.{arith}
-use lib.ListN.{length}
+use Rattle.text.specs.Prelude.{ℕ, _+_, _≡_, true, List, [], _∷_, _++_, length}
+use Rattle.text.proofs.Prelude.{arith, refl, sym, _∙_, append-nil, append-assoc}
 use Rattle.log.specs.Line.{lineText}
 use Rattle.log.specs.Log.{chunks, closed, Reader, LineRead, readFrom, readings}
 use Rattle.log.specs.Fold.{over, texts, Carried, fresh, readOn, pastLine, pastLines, fed}
@@ -112,7 +108,8 @@ module _ {A H T : Type 0} (R : Reader A H) (step : T → LineRead A H → T) whe
   all-texts f c [] h = sym (no-text R f c)
   all-texts f c (p ∷ []) h = rw (append-nil, append-nil)
   all-texts f c (p ∷ q ∷ ps) h =
-      rw (all-texts f (fed R step c p) (q ∷ ps) (h .1), read-append c p (joined (q ∷ ps)) (h .0)) (sym (texts-append f _ _))
+      rw (all-texts f (fed R step c p) (q ∷ ps) (h .1), read-append c p (joined (q ∷ ps)) (h .0))
+      (sym (texts-append f _ _))
 
   pub in-pieces : InPieces R step
   in-pieces = record {

@@ -1,19 +1,15 @@
 -- A loop over a log, or over a piece of one: at each place it has made what the lines before that place make.
-use Prim.Native.Nat.{ℕ, _+_, _-_, _≤_, _<_}
-use mathlib.Core.Path.{_≡_, refl, sym, ap, _∙_}
-use mathlib.Core.Bool.{true}
-use mathlib.Core.List.{List, [], _∷_, _++_, append-nil}
+use Rattle.text.specs.Prelude.{ℕ, _+_, _-_, _≤_, _<_, _≡_, true, List, [], _∷_, _++_, length, take, drop, _≤?_}
+use Rattle.text.proofs.Prelude.{arith, refl, sym, ap, _∙_, append-nil, length-drop, length-take, drop-of-length-le}
+use Rattle.text.proofs.Prelude.{take-all, length-take-le, is≤, isnt≤}
 use mathlib.Core.Option.{Option, none, some}
-use native.Mathlib.Omega.{arith}
-use lib.ListN.{length, take, drop, length-drop, length-take, take-append-drop, drop-of-length-le}
-use lib.Seq.{take-add, take-all, length-take-le}
-use Rattle.text.specs.Res.{_≤?_}
-use Rattle.text.proofs.Steps.{is≤, isnt≤}
+use lib.ListN.{take-append-drop}
+use lib.Seq.{take-add}
 use Rattle.part.specs.Part.{bytesOf, partBytes}
 use Rattle.log.specs.Line.{width, lineText, cutAt}
 use Rattle.log.specs.Log.{chunks, closed, Reader, LineRead, readFrom, readings}
 use Rattle.log.specs.declared.Cut.{Cut}
-use Rattle.log.proofs.Ends.{either, width-le, lineText-first}
+use Rattle.log.proofs.Ends.{by-test, width-le, lineText-first}
 use Rattle.log.proofs.Cuts.{next-gt, next-le, cut-viewed}
 use Rattle.log.specs.Fold.{over, texts, orElse, firstWith, keep, Carried, fresh, readAt, readOn, pastLine}
 use Rattle.log.specs.Fold.{pastLines, fed}
@@ -42,7 +38,13 @@ most-lines : {A H T : Type 0} (R : Reader A H) (step : T → LineRead A H → T)
     → (c : Carried H T) (ks : List (List ℕ)) → m (pastLines R step c ks .made) ≤ m (c .made) + length ks
 unfolding pastLines pastLine
 most-lines R step m h c [] = omega arith
-most-lines R step m h c (k ∷ ks) = omega (arith, most-lines R step m h (pastLine R step c (lineText k) (length k)) ks, h (c .made) (readAt R c (lineText k)))
+most-lines R step m h c (k ∷ ks) =
+    omega (
+      arith,
+      most-lines R step m h (pastLine R step c (lineText k) (length k)) ks,
+      h (c .made)
+          (readAt R c (lineText k)),
+    )
 
 module _ {A H T : Type 0} {R : Reader A H} {step : T → LineRead A H → T} where
   -- before the first line
@@ -53,9 +55,10 @@ module _ {A H T : Type 0} {R : Reader A H} {step : T → LineRead A H → T} whe
     -- who goes on from here makes what the whole makes
     rest : fed R step c (drop at s) ≡ fed R step c₀ s
     rest =
-        either (length s ≤? at)
+        by-test (length s ≤? at)
         (λ e. rw (drop-of-length-le s (is≤ e), r .made, take-all at s (is≤ e)) (fed-none R step _))
-        (λ e. rw (r .made) (sym (fed-append R step c₀ (take at s) (drop at s) (r .whole (isnt≤ e))) ∙ rw (take-append-drop at s)))
+        (λ e. rw (r .made) (sym (fed-append R step c₀ (take at s) (drop at s) (r .whole (isnt≤ e)))
+        ∙ rw (take-append-drop at s)))
 
     -- after the last line
     pub at-end : length s ≤ at → c ≡ fed R step c₀ s
@@ -68,12 +71,14 @@ module _ {A H T : Type 0} {R : Reader A H} {step : T → LineRead A H → T} whe
     -- a count that a line raises by at most one
     pub at-most : (m : T → ℕ) → ((a : T) (x : LineRead A H) → m (step a x) ≤ m a + 1) → m (c .made) ≤ m (c₀ .made) + at
     unfolding fed
-    at-most m h = rw (r .made) (omega (arith, most-lines R step m h c₀ (chunks (take at s)), chunks-le (take at s), length-take at s))
+    at-most m h = rw (r .made)
+        (omega (arith, most-lines R step m h c₀ (chunks (take at s)), chunks-le (take at s), length-take at s))
 
     -- what no later line changes
     pub settled : ((x : LineRead A H) → step (c .made) x ≡ c .made) → c .made ≡ fed R step c₀ s .made
     unfolding over
-    settled h = sym (over-settled (readOn R c (drop at s))) ∙ sym (made-is R step c (drop at s)) ∙ ap (λ (k : Carried H T). k .made) rest
+    settled h = sym (over-settled (readOn R c (drop at s))) ∙ sym (made-is R step c (drop at s))
+        ∙ ap (λ (k : Carried H T). k .made) rest
       where
         over-settled : (xs : List (LineRead A H)) → over step (c .made) xs ≡ c .made
         over-settled [] = refl
@@ -81,26 +86,38 @@ module _ {A H T : Type 0} {R : Reader A H} {step : T → LineRead A H → T} whe
 
     module _ (p : at < length s) where
       -- the line that is cut here
-      next-reached : Reached R step c₀ s (cutAt at s .next) (pastLine R step c (bytesOf (cutAt at s .line) s) (width (drop at s)))
+      next-reached : Reached R step c₀ s (cutAt at s .next)
+          (pastLine R step c (bytesOf (cutAt at s .line) s) (width (drop at s)))
       unfolding cutAt bytesOf lineText
       next-reached =
           let w = width (drop at s) in
           record {
             inside = next-le s at (r .inside);
-            whole = λ h. rw (take-add at w s) (closed-append (take at s) (take w (drop at s)) (r .whole p) (closed-line (drop at s) (omega (arith, length-drop at s))));
+            whole = λ h. rw (take-add at w s)
+                (closed-append (take at s) (take w (drop at s)) (r .whole p)
+                (closed-line (drop at s) (omega (arith, length-drop at s))));
             made =
                 rw (r .made, take-add at w s)
-                (sym (fed-append R step c₀ (take at s) (take w (drop at s)) (r .whole p) ∙ one-fed R step _ (drop at s) (omega (arith, length-drop at s))));
+                (sym (fed-append R step c₀ (take at s) (take w (drop at s)) (r .whole p) ∙ one-fed R step _ (drop at s)
+                (omega (arith, length-drop at s))));
           }
 
       -- and the text of what was read up to the next place
       pub text-next : (f : LineRead A H → List ℕ)
-          → texts f (readOn R c₀ (take (cutAt at s .next) s)) ≡ texts f (readOn R c₀ (take at s)) ++ f (readAt R c (bytesOf (cutAt at s .line) s))
+          → texts f (readOn R c₀ (take (cutAt at s .next) s)) ≡ texts f (readOn R c₀ (take at s))
+          ++ f (readAt R c (bytesOf (cutAt at s .line) s))
       unfolding cutAt bytesOf lineText texts
       text-next f =
           let w = width (drop at s) in
           let one = one-read R c (drop at s) (omega (arith, length-drop at s)) in
-          rw (take-add at w s, read-append R step c₀ (take at s) (take w (drop at s)) (r .whole p), sym (r .made), one, texts-append f (readOn R c₀ (take at s)), append-nil)
+          rw (
+            take-add at w s,
+            read-append R step c₀ (take at s) (take w (drop at s)) (r .whole p),
+            sym (r .made),
+            one,
+            texts-append f (readOn R c₀ (take at s)),
+            append-nil,
+          )
 
       pub nearer : {cut : Cut} → cut ≡ cutAt at s → length s - cut .next < length s - at
       nearer e = rw e (omega (arith, next-gt s at p, next-le s at (r .inside)))
@@ -121,7 +138,8 @@ module _ {A H T : Type 0} {R : Reader A H} {step : T → LineRead A H → T} whe
 
   pub product : {s : List ℕ} {at : ℕ} {a : T} {c : Carried H T} → length s ≤ at → Reached R step (fresh R a) s at c →
       c .made ≡ over step a (readings R s)
-  product {s} {at} {a} {c} h r = ap (λ (k : Carried H T). k .made) (at-end r h) ∙ made-is R step (fresh R a) s ∙ ap (over step a) (all-read R step a s)
+  product {s} {at} {a} {c} h r = ap (λ (k : Carried H T). k .made) (at-end r h) ∙ made-is R step (fresh R a) s
+      ∙ ap (over step a) (all-read R step a s)
 
 -- ---- the first reading that has something
 
@@ -133,12 +151,14 @@ over-keep f (some b) [] = refl
 over-keep f none (x ∷ xs) = over-keep f (f x) xs
 over-keep f (some b) (x ∷ xs) = over-keep f (some b) xs
 
-module _ {A H T : Type 0} {R : Reader A H} (f : LineRead A H → Option T) {s : List ℕ} {at : ℕ} {c : Carried H (Option T)} (r : Reached R (keep f) (fresh R none) s at c) where
+module _ {A H T : Type 0} {R : Reader A H} (f : LineRead A H → Option T) {s : List ℕ} {at : ℕ}
+    {c : Carried H (Option T)} (r : Reached R (keep f) (fresh R none) s at c) where
   -- it is found on the line before
   pub found : {b : T} → c .made ≡ some b → some b ≡ firstWith f (readings R s)
   unfolding keep orElse
   found e =
-      sym e ∙ settled r (λ x. rw e) ∙ made-is R (keep f) (fresh R none) s ∙ rw (all-read R (keep f) none s) (over-keep f none (readings R s))
+      sym e ∙ settled r (λ x. rw e) ∙ made-is R (keep f) (fresh R none) s ∙ rw (all-read R (keep f) none s)
+      (over-keep f none (readings R s))
 
   -- no line has it
   pub not-found : length s ≤ at → c .made ≡ none → none ≡ firstWith f (readings R s)

@@ -1,13 +1,8 @@
 -- The loop over the lines of a piece, which takes them into lent bytes: what is left to take, from here, makes up the
 -- whole.
-use Prim.Native.Nat.{ℕ, _+_, _-_, _≤_, _<_}
-use mathlib.Core.Path.{_≡_, refl, sym, ap, _∙_}
-use mathlib.Core.List.{List, []}
-use native.Mathlib.Omega.{arith}
-use lib.ListN.{length, drop, length-drop, drop-of-length-le}
-use lib.Seq.{drop-drop, length-take-le}
-use Rattle.text.specs.Res.{pick, _≤?_}
-use Rattle.text.proofs.Steps.{first, second, yes≤, no≤}
+use Rattle.text.specs.Prelude.{ℕ, _+_, _-_, _≤_, _<_, _≡_, List, [], length, drop, pick, _≤?_}
+use Rattle.text.proofs.Prelude.{arith, refl, sym, ap, _∙_, length-drop, drop-of-length-le, drop-drop, length-take-le}
+use Rattle.text.proofs.Prelude.{first, second, yes≤, no≤}
 use Rattle.part.specs.Part.{bytesOf, partBytes}
 use Rattle.log.specs.Line.{width, lineText, cutAt}
 use Rattle.log.specs.Log.{chunks, Reader, LineRead}
@@ -19,13 +14,15 @@ use Rattle.log.proofs.Chunks.{chunks-some, chunks-none}
 use Rattle.log.proofs.Cuts.{cut-viewed}
 use Rattle.log.proofs.Reached.{Reached}
 
-module _ {A H T : Type 0} (R : Reader A H) (step : T → LineRead A H → T) (f : LineRead A H → List ℕ) (c₀ : Carried H T) (s : List ℕ) (room : ℕ) where
+module _ {A H T : Type 0} (R : Reader A H) (step : T → LineRead A H → T) (f : LineRead A H → List ℕ) (c₀ : Carried H T)
+    (s : List ℕ) (room : ℕ) where
   -- At the place, with c carried there and so many bytes written: what is taken from there on makes up what is taken of
   -- all.
   pub record Left (at : ℕ) (c : Carried H T) (written : ℕ) : Type 0 where
     pub whole : at + takenIn R step f c (chunks (drop at s)) (room - written) ≡ takenIn R step f c₀ (chunks s) room
 
-module _ {A H T : Type 0} {R : Reader A H} {step : T → LineRead A H → T} {f : LineRead A H → List ℕ} {c₀ : Carried H T} {s : List ℕ} {room : ℕ} where
+module _ {A H T : Type 0} {R : Reader A H} {step : T → LineRead A H → T} {f : LineRead A H → List ℕ} {c₀ : Carried H T}
+    {s : List ℕ} {room : ℕ} where
   -- before the first line
   pub left-all : Left R step f c₀ s room 0 c₀ 0
   left-all = let z : room - 0 ≡ room = omega arith in record { whole = rw z (omega arith) }
@@ -43,21 +40,30 @@ module _ {A H T : Type 0} {R : Reader A H} {step : T → LineRead A H → T} {f 
       -- the line here is taken where its text has room
       taken-line : takenIn R step f c (chunks (drop at s)) (room - written) ≡
           pick (length (f (readAt R c here)) ≤? (room - written))
-          (width (drop at s) + takenIn R step f (pastLine R step c here (width (drop at s))) (chunks (drop (cutAt at s .next) s))
+          (width (drop at s) + takenIn R step f (pastLine R step c here (width (drop at s)))
+          (chunks (drop (cutAt at s .next) s))
           (room - written - length (f (readAt R c here)))) 0
       unfolding takenIn cutAt bytesOf lineText
       taken-line =
           let l = length-take-le (width (drop at s)) (drop at s) (width-le (drop at s)) in
-          rw (chunks-some (drop at s) (omega (arith, length-drop at s)), lineText-first (drop at s), l, drop-drop (width (drop at s)) at s)
+          rw (
+            chunks-some (drop at s) (omega (arith, length-drop at s)),
+            lineText-first (drop at s),
+            l,
+            drop-drop
+                (width (drop at s)) at s,
+          )
 
       pub left-full : room - written < length (f (readAt R c here)) → at ≡ takenIn R step f c₀ (chunks s) room
       left-full h = omega (arith, left .whole, taken-line ∙ sym (second _ (no≤ h) refl))
 
       left-next : length (f (readAt R c here)) ≤ room - written →
-          Left R step f c₀ s room (cutAt at s .next) (pastLine R step c here (width (drop at s))) (written + length (f (readAt R c here)))
+          Left R step f c₀ s room (cutAt at s .next) (pastLine R step c here (width (drop at s)))
+          (written + length (f (readAt R c here)))
       unfolding cutAt
       left-next h =
-          let z : room - written - length (f (readAt R c here)) ≡ room - (written + length (f (readAt R c here))) = omega arith in
+          let z : room - written - length (f (readAt R c here)) ≡ room - (written + length (f (readAt R c here))) =
+          omega arith in
           record { whole = omega (arith, left .whole, rw z at (taken-line ∙ sym (first _ (yes≤ h) refl))) }
 
   -- the same of the line as the code cuts it and views it
@@ -65,7 +71,8 @@ module _ {A H T : Type 0} {R : Reader A H} {step : T → LineRead A H → T} {f 
       Left R step f c₀ s room at (record { number = n; place = p; held = h; made = a }) written →
       cut ≡ cutAt at s → l ≡ partBytes (cut .line) s → p′ + at ≡ p + cut .next → h′ ≡ R .after p h l →
       a′ ≡ step a (record { number = n + 1; place = p; line = l; answer = R .read l; held = R .after p h l }) →
-      to ≡ written + length (f (record { number = n + 1; place = p; line = l; answer = R .read l; held = R .after p h l })) → to ≤ room →
+      to ≡ written + length
+      (f (record { number = n + 1; place = p; line = l; answer = R .read l; held = R .after p h l })) → to ≤ room →
       Left R step f c₀ s room (cut .next) (record { number = n + 1; place = p′; held = h′; made = a′ }) to
   unfolding pastLine cutAt
   left-line {l} {at} {n} {p} {p′} {cut = cut} i left e v q g m t r =

@@ -1,8 +1,6 @@
 -- A product of a log: one reading after the other.
-use Prim.Native.Nat.{ℕ, _+_}
-use mathlib.Core.List.{List, [], _∷_, _++_}
+use Rattle.text.specs.Prelude.{ℕ, _+_, List, [], _∷_, _++_, length}
 use mathlib.Core.Option.{Option, none, some}
-use lib.ListN.{length}
 use Rattle.log.specs.Line.{lineText}
 use Rattle.log.specs.Log.{chunks, Reader, LineRead, readFrom}
 

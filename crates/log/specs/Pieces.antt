@@ -1,9 +1,5 @@
 -- A log in pieces, each of whole lines, is read as the whole log is. What goes from one to the next is `Carried`.
-use Prim.Native.Nat.{ℕ, _+_, _≤_}
-use mathlib.Core.Path.{_≡_}
-use mathlib.Core.Bool.{true}
-use mathlib.Core.List.{List, [], _∷_, _++_}
-use lib.ListN.{length}
+use Rattle.text.specs.Prelude.{ℕ, _+_, _≤_, _≡_, true, List, [], _∷_, _++_, length}
 use Rattle.log.specs.Log.{chunks, closed, Reader, LineRead, readings}
 use Rattle.log.specs.Fold.{over, texts, Carried, fresh, readOn, fed}
 

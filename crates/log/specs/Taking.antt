@@ -1,11 +1,6 @@
 -- Lines of a piece taken into lent bytes, as long as each one's text has room.
-use Prim.Native.Nat.{ℕ, _+_, _-_, _≤_, _<_}
-use mathlib.Core.Path.{_≡_}
-use mathlib.Core.Bool.{true}
-use mathlib.Core.List.{List, [], _∷_, _++_}
-use lib.ListN.{length, take, drop}
+use Rattle.text.specs.Prelude.{ℕ, _+_, _-_, _≤_, _<_, _≡_, true, List, [], _∷_, _++_, length, take, drop, pick, _≤?_}
 use lib.Seq.{sets}
-use Rattle.text.specs.Res.{pick, _≤?_}
 use Rattle.log.specs.Line.{lineText}
 use Rattle.log.specs.Log.{chunks, closed, Reader, LineRead}
 use Rattle.log.specs.Fold.{texts, Carried, readAt, readOn, pastLine, fed}

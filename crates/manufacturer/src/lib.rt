@@ -1,7 +1,7 @@
-// Makers of recorders and their codes, as src/util/manufacturer.rs has them. The readers list the makers in the order of the
-// definition `known`, by which their last arm is proved.
+// Makers of recorders and their codes, as src/util/manufacturer.rs has them. The readers list the makers in the order
+// of the definition `known`, by which their last arm is proved.
 ghost use mathlib.Core.Path.{_≡_};
-ghost use Rattle.manufacturer.specs.Maker.{letterOf, tripleOf, letterMaker, tripleMaker, numberOf};
+ghost use Rattle.manufacturer.specs.Maker.{letterOf, tripleOf, letterMaker, tripleMaker, tripleNumber};
 use Manufacturer::*;
 use MaybeLetter::Letter;
 use MaybeTriple::Triple;
@@ -48,12 +48,13 @@ pub enum MaybeTriple {
 
 // Three bytes as one number, so that one `match` decides on all of them.
 fn number(triple: Mnemonic) -> u32
-    ensures { λ r. ⌜ r ≡ numberOf triple ⌝ }
+    ensures { λ r. ⌜ r ≡ tripleNumber triple ⌝ }
 {
     (triple.0 as u32) * 65536 + (triple.1 as u32) * 256 + (triple.2 as u32)
 }
 
 impl Manufacturer {
+    // The maker of a letter; a letter that no maker has is carried.
     pub fn parse_single_char(letter: u8) -> Manufacturer
         ensures { λ r. ⌜ r ≡ letterMaker letter ⌝ }
     {
@@ -80,6 +81,7 @@ impl Manufacturer {
         }
     }
 
+    // The maker of a triple; a triple that no maker has is carried.
     pub fn parse_triple_char(triple: Mnemonic) -> Manufacturer
         ensures { λ r. ⌜ r ≡ tripleMaker triple ⌝ }
     {
@@ -111,6 +113,7 @@ impl Manufacturer {
         }
     }
 
+    // The maker's letter, where it has one.
     pub fn to_single_char(self) -> MaybeLetter
         ensures { λ r. ⌜ r ≡ letterOf self ⌝ }
     {
@@ -143,6 +146,7 @@ impl Manufacturer {
         }
     }
 
+    // The maker's triple, where it has one.
     pub fn to_triple_char(self) -> MaybeTriple
         ensures { λ r. ⌜ r ≡ tripleOf self ⌝ }
     {

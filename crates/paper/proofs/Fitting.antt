@@ -1,13 +1,7 @@
 -- A printer whose text has room wrote it.
-use Prim.Native.Nat.{ℕ, _≤_}
-use mathlib.Core.Path.{_≡_, refl, sym, ap, subst}
-use mathlib.Core.List.{List, _++_}
-use native.Mathlib.Omega.{arith}
-use lib.ListN.{length, take, drop, length-append}
-use lib.Seq.{take-at}
-use Rattle.text.specs.Res.{Res, ok, no, bind, guard, pick}
+use Rattle.text.specs.Prelude.{ℕ, _≤_, _≡_, List, _++_, length, take, drop, Res, ok, no, bind, guard, pick}
+use Rattle.text.proofs.Prelude.{arith, refl, sym, ap, subst, length-append, take-at, yes≤}
 use Rattle.text.specs.declared.refusal.Refusal.{Refusal}
-use Rattle.text.proofs.Steps.{yes≤}
 use Rattle.print.specs.Print.{answerTo, leftBy, Prints}
 use Rattle.print.specs.declared.printed.Printed.the-variants.{Written, Refused}
 

@@ -3,7 +3,7 @@ ghost use mathlib.Core.Path.{_≡_};
 ghost use lib.ListN.{length};
 ghost use Rattle.listing_text.specs.Paper.{paperText};
 ghost use Rattle.files.specs.Input.{Within};
-ghost use Rattle.paper.specs.Answer.{answerText, Begins};
+ghost use Rattle.paper.specs.Answer.{writtenAnswer, Begins};
 use files::input::Filled;
 use files::input::read_on;
 use files::outcome::Outcome;
@@ -28,7 +28,7 @@ fn text_buffer() -> [u8; 2490433]
 // What the program writes, by how far its bytes were filled. It always has room.
 fn put_answer(filled: Filled, log: &[u8], text: &mut [u8]) -> usize
     requires { ⌜ Within filled (now log) × (2490433 ≡ length (now text)) ⌝ }
-    ensures { λ r. ⌜ Begins r (now (text .exit)) (answerText filled (now (log .entry))) ⌝ }
+    ensures { λ r. ⌜ Begins r (now (text .exit)) (writtenAnswer filled (now (log .entry))) ⌝ }
 {
     match filled {
         Filled::Ended(n) => put_paper(&log[0..n], text),

@@ -1,12 +1,7 @@
 -- Numbers written into lent bytes.
-use mathlib.Core.Path.{_≡_, sym, ap, _∙_}
-use mathlib.Core.List.{List, [], _∷_}
-use Prim.Native.Nat.{ℕ, suc, _+_, _-_, _/_, _%_}
-use native.Mathlib.Omega.{arith}
-use lib.ListN.{set}
-use lib.Seq.{sets}
-use lib.IntN.{ℤ, pos, negsuc}
-use Rattle.text.specs.Number.{digits, padded, signed}
+use Rattle.text.specs.Prelude.{ℕ, suc, _+_, _-_, _/_, _%_, _≡_, List, [], _∷_, set, ℤ, pos, negsuc, padded, signed}
+use Rattle.text.specs.Prelude.{digits}
+use Rattle.text.proofs.Prelude.{arith, sym, ap, _∙_, sets}
 use Rattle.text.proofs.Decimal.{length-digits}
 use Rattle.put.specs.Put.{place, Wrote}
 use Rattle.put.proofs.Writing.{sets-snoc, sets-place}
@@ -14,10 +9,12 @@ use Rattle.print.specs.Signed.{splitOf}
 use Rattle.print.specs.declared.number.Signed.the-variants.{Plus, Minus}
 
 -- the last of k + 1 digits is written, and then the first k
-pub digit-before : {b b′ : List ℕ} (i k n : ℕ) {j r : ℕ} → j ≡ place (i + k) → Wrote b j ((48 + n % 10) ∷ []) b′ r → sets b′ i (digits k (n / 10)) ≡ sets b i (digits (suc k) n)
+pub digit-before : {b b′ : List ℕ} (i k n : ℕ) {j r : ℕ} → j ≡ place (i + k) → Wrote b j ((48 + n % 10) ∷ []) b′ r
+    → sets b′ i (digits k (n / 10)) ≡ sets b i (digits (suc k) n)
 unfolding digits
 digit-before {b} i k n e w =
-    ap (λ (l : List ℕ). sets l i (digits k (n / 10))) (w .content ∙ rw e (sets-place b (i + k) ((48 + n % 10) ∷ []) (w .short)))
+    ap (λ (l : List ℕ). sets l i (digits k (n / 10)))
+    (w .content ∙ rw e (sets-place b (i + k) ((48 + n % 10) ∷ []) (w .short)))
     ∙ ap (λ (m : ℕ). sets (set b (i + m) (48 + n % 10)) i (digits k (n / 10))) (sym (length-digits k (n / 10)))
     ∙ sets-snoc b i (digits k (n / 10)) (48 + n % 10)
 

@@ -1,9 +1,5 @@
 -- What a printer answers, and what it leaves in the lent bytes: one contract for all of them.
-use Prim.Native.Nat.{ℕ}
-use mathlib.Core.Path.{_≡_}
-use mathlib.Core.List.{List, _++_}
-use lib.ListN.{length, drop}
-use Rattle.text.specs.Res.{Res, ok, no, bind, guard, pick, _≤?_}
+use Rattle.text.specs.Prelude.{ℕ, _≡_, List, _++_, length, drop, Res, ok, no, bind, guard, pick, _≤?_}
 use Rattle.text.specs.declared.refusal.Refusal.the-variants.{NoRoom}
 use Rattle.print.specs.declared.printed.Printed.{Printed}
 use Rattle.print.specs.declared.printed.Printed.the-variants.{Written, Refused}

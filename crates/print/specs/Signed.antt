@@ -1,6 +1,5 @@
 -- A signed number as the code takes it apart.
-use Prim.Native.Nat.{suc}
-use lib.IntN.{ℤ, pos, negsuc}
+use Rattle.text.specs.Prelude.{suc, ℤ, pos, negsuc}
 use Rattle.print.specs.declared.number.Signed.{Signed}
 use Rattle.print.specs.declared.number.Signed.the-variants.{Plus, Minus}
 

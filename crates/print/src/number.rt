@@ -98,6 +98,7 @@ pub fn put_int(buf: &mut [u8], at: usize, z: i64, width: usize) -> usize
     }
 }
 
+// The same of 16 bits.
 pub fn put_i16(buf: &mut [u8], at: usize, z: i16, width: usize) -> usize
     ensures { λ r. ⌜ Wrote (now (buf .entry)) at (signed width z) (now (buf .exit)) r ⌝ }
 {
@@ -105,6 +106,7 @@ pub fn put_i16(buf: &mut [u8], at: usize, z: i16, width: usize) -> usize
     put_int(buf, at, from_i16, width)
 }
 
+// The same of 8 bits.
 pub fn put_i8(buf: &mut [u8], at: usize, z: i8, width: usize) -> usize
     ensures { λ r. ⌜ Wrote (now (buf .entry)) at (signed width z) (now (buf .exit)) r ⌝ }
 {

@@ -15,6 +15,7 @@ pub enum Printed {
     Refused(Refusal),
 }
 
+// Prints a number in a width.
 pub fn print_int(z: i64, width: usize, buf: &mut [u8]) -> Printed
     ensures { λ r. ⌜ Prints (ok (signed width z)) (now (buf .entry)) (now (buf .exit)) r ⌝ }
 {
@@ -24,6 +25,7 @@ pub fn print_int(z: i64, width: usize, buf: &mut [u8]) -> Printed
     Printed::Written(put_int(buf, 0, z, width))
 }
 
+// Prints a part of the line.
 pub fn print_part(p: Part, line: &[u8], buf: &mut [u8]) -> Printed
     ensures { λ r. ⌜ Prints (partText p (now (line .entry))) (now (buf .entry)) (now (buf .exit)) r ⌝ }
 {

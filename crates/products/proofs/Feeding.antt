@@ -1,16 +1,10 @@
 -- The loop that takes the lines of a piece, as far as there is room for their text.
-use Prim.Native.Nat.{ℕ, suc, _+_, _≤_, _<_}
-use mathlib.Core.Path.{_≡_, refl, sym, ap, _∙_}
-use mathlib.Core.Bool.{Bool, true, false}
-use mathlib.Core.List.{List, [], _∷_, _++_, append-nil}
-use native.Mathlib.Omega.{arith}
-use lib.ListN.{length, take, set}
-use lib.Seq.{sets}
-use Rattle.text.specs.Word.{largest}
-use Rattle.text.proofs.Steps.{yes≤, is≤, and, both}
+use Rattle.text.specs.Prelude.{ℕ, suc, _+_, _≤_, _<_, _≡_, Bool, true, false, List, [], _∷_, _++_, length, take, set}
+use Rattle.text.specs.Prelude.{largest}
+use Rattle.text.proofs.Prelude.{arith, refl, sym, ap, _∙_, append-nil, sets, yes≤, is≤, both, and}
 use Rattle.part.specs.Part.{partBytes, bytesOf}
 use Rattle.put.specs.Put.{Wrote}
-use Rattle.put.proofs.Writing.{kept, nothing, then}
+use Rattle.put.proofs.Writing.{wrote-length, wrote-nothing, then}
 use Rattle.records.specs.Record.{readingRes}
 use Rattle.log.specs.Line.{cutAt}
 use Rattle.log.specs.Log.{chunks}
@@ -29,25 +23,23 @@ use Rattle.walk.proofs.Turns.{gotRead, cut-of, answer-of, turn, text-turn, cut-
 use Rattle.listing_text.specs.Trailer.{counted, tallied, countStep}
 use Rattle.listing_text.specs.declared.trailer.Trailer.{Trailer}
 use Rattle.listing_text.proofs.Telling.{tallied-is, one-refused}
-use Rattle.products.specs.Product.{productLine, textOf}
+use Rattle.products.specs.Product.{productLine, productLineOf}
 use Rattle.products.specs.Feed.{view, isReady, FedOf, Feeds}
-use Rattle.products.specs.declared.Product.{Product}
-use Rattle.products.specs.declared.Carried.{Carried}
-use Rattle.products.specs.declared.Fed.{Fed}
+use Rattle.products.specs.declared.{Product.Product, Carried.Carried, Fed.Fed}
 
 -- A line raises the count of lines by one.
-pub one-line : (t : Trailer) (x : Line-read) → countStep t x .lines ≤ t .lines + 1
+pub one-line-fed : (t : Trailer) (x : Line-read) → countStep t x .lines ≤ t .lines + 1
 unfolding countStep counted
-one-line t x = omega arith
+one-line-fed t x = omega arith
 
 -- Where a piece is ready no place and no count passes 64 bits over its bytes.
-pub within : (c : Carried) (n : ℕ) → isReady c n ≡ true →
+pub within-64-bits : (c : Carried) (n : ℕ) → isReady c n ≡ true →
     (c .walk .at .place + n ≤ largest)
     × (c .walk .at .number + n ≤ largest)
     × (c .trailer .lines + n ≤ largest)
     × (c .trailer .refused + n ≤ largest)
 unfolding isReady
-within c n e =
+within-64-bits c n e =
     let k = both e in
     let l = both (k .1) in
     let m = both (l .1) in
@@ -72,8 +64,8 @@ module _ (p : Product) (names : List ℕ) (c : Carried) (s b₀ : List ℕ) wher
   -- The lines before the place were taken.
   pub record Feeding (b : List ℕ) (h : Held) (n : ℕ) (t : Trailer) (at end : ℕ) : Type 0 where
     pub reached : Reached reader countStep (view c) s at (behind c h n t at)
-    pub left : Left reader countStep (textOf p names) (view c) s (length b₀) at (behind c h n t at) end
-    pub wrote : Wrote b₀ 0 (texts (textOf p names) (readOn reader (view c) (take at s))) b end
+    pub left : Left reader countStep (productLineOf p names) (view c) s (length b₀) at (behind c h n t at) end
+    pub wrote : Wrote b₀ 0 (texts (productLineOf p names) (readOn reader (view c) (take at s))) b end
     pub fits : end ≤ length b₀
     pub ready : isReady c (length s) ≡ true
 
@@ -86,7 +78,7 @@ module _ {p : Product} {names : List ℕ} {c : Carried} {s b₀ : List ℕ} wher
       record {
         reached = rw z reached.at-start;
         left = rw z left-all;
-        wrote = rw (no-text reader (textOf p names) (view c)) (nothing b₀ 0 short (omega arith));
+        wrote = rw (no-text reader (productLineOf p names) (view c)) (wrote-nothing b₀ 0 short (omega arith));
         fits = omega arith;
         ready = e;
       }
@@ -94,22 +86,22 @@ module _ {p : Product} {names : List ℕ} {c : Carried} {s b₀ : List ℕ} wher
   module _ {b : List ℕ} {h : Held} {n : ℕ} {t : Trailer} {at end : ℕ} (f : Feeding p names c s b₀ b h n t at end) where
     -- No place passes 64 bits.
     pub place-small : placed c at ≤ largest
-    place-small = omega (arith, within c (length s) (f .ready) .0, f .reached .inside)
+    place-small = omega (arith, within-64-bits c (length s) (f .ready) .0, f .reached .inside)
 
     -- Neither the number of a line does, nor a count over the lines.
     pub counts-small : at < length s → (n < largest) × (t .lines < largest) × (t .refused < largest)
     counts-small i =
-        let k = within c (length s) (f .ready) in (
+        let k = within-64-bits c (length s) (f .ready) in (
           omega (arith, k .1, reached.few (f .reached)),
-          omega (arith, k .2, reached.at-most (f .reached) (λ t. t .lines) one-line),
+          omega (arith, k .2, reached.at-most (f .reached) (λ t. t .lines) one-line-fed),
           omega (arith, k .3, reached.at-most (f .reached) (λ t. t .refused) one-refused),
         )
 
     -- Who stops here has taken what is before the place.
-    stops : {b′ : List ℕ} → at ≡ takenIn reader countStep (textOf p names) (view c) (chunks s) (length b₀) →
-        b′ ≡ sets b₀ 0 (texts (textOf p names) (readOn reader (view c) (take at s))
-        ++ nextText reader countStep (textOf p names) (view c) s at) →
-        Took reader countStep (textOf p names) (view c) s b₀ b′ (behind c h n t at) at end
+    stops : {b′ : List ℕ} → at ≡ takenIn reader countStep (productLineOf p names) (view c) (chunks s) (length b₀) →
+        b′ ≡ sets b₀ 0 (texts (productLineOf p names) (readOn reader (view c) (take at s))
+        ++ nextText reader countStep (productLineOf p names) (view c) s at) →
+        Took reader countStep (productLineOf p names) (view c) s b₀ b′ (behind c h n t at) at end
     stops taken content = record {
       taken = taken;
       carried = f .reached .made;
@@ -121,9 +113,10 @@ module _ {p : Product} {names : List ℕ} {c : Carried} {s b₀ : List ℕ} wher
     }
 
     -- After the last line.
-    pub at-end : length s ≤ at → Took reader countStep (textOf p names) (view c) s b₀ b (behind c h n t at) at end
+    pub at-end : length s ≤ at → Took reader countStep (productLineOf p names) (view c) s b₀ b (behind c h n t at)
+        at end
     at-end i =
-        let none = next-none reader countStep (textOf p names) (view c) s at i in
+        let none = next-none reader countStep (productLineOf p names) (view c) s at i in
         stops (left-none (f .left) i) (rw (none, append-nil) (f .wrote .content))
 
     module _ {g : Got} {l b′ : List ℕ} {h′ : Held} {to : ℕ} (i : at < length s) (e : g ≡ gotAt at s)
@@ -132,16 +125,16 @@ module _ {p : Product} {names : List ℕ} {c : Carried} {s b₀ : List ℕ} wher
       -- The text of the line, as that of its reading.
       abbrev text : List ℕ
       text =
-          textOf p names
+          productLineOf p names
           (gotRead g s (n + 1) (placed c at) (reader .after (placed c at) h (partBytes (g .line) s)))
 
       -- It was written.
       wrote-text : Wrote b end text b′ to
-      unfolding textOf
+      unfolding productLineOf
       wrote-text = rw (k, v) at u
 
       -- It is that of the line which is cut here.
-      text-here : text ≡ textOf p names (readAt reader (behind c h n t at) (bytesOf (cutAt at s .line) s))
+      text-here : text ≡ productLineOf p names (readAt reader (behind c h n t at) (bytesOf (cutAt at s .line) s))
       text-here = let cut = cut-here i (f .reached) e in rw (cut .0, cut .1)
 
       -- A line whose text has room.
@@ -153,26 +146,27 @@ module _ {p : Product} {names : List ℕ} {c : Carried} {s b₀ : List ℕ} wher
           let made = rw v at (m ∙ tallied-is t _ _ _ (small .1) (small .2)) in
           let q : placed c (g .next) + at ≡ placed c at + g .next = omega arith in
           let held = k ∙ ap (reader .after (placed c at) h) v in
-          let long : to ≡ end + length text = omega (arith, wrote-text .next, wrote-text .short, kept wrote-text) in
-          let fits : to ≤ length b₀ = omega (arith, kept wrote-text, kept (f .wrote)) in
+          let long : to ≡ end + length text =
+          omega (arith, wrote-text .next, wrote-text .short, wrote-length wrote-text) in
+          let fits : to ≤ length b₀ = omega (arith, wrote-length wrote-text, wrote-length (f .wrote)) in
           let answer = answer-of at s e in
           record {
             reached = turn i (f .reached) e q held made;
             left = left-line i (f .left) (cut-of at s e) refl q held (rw answer at made) (rw answer at long) fits;
-            wrote = rw (text-turn i (f .reached) e (textOf p names)) (then (f .wrote) wrote-text);
+            wrote = rw (text-turn i (f .reached) e (productLineOf p names)) (then (f .wrote) wrote-text);
             fits = fits;
             ready = f .ready;
           }
 
       -- One whose text has none.
       pub full : length b′ < to →
-          Took reader countStep (textOf p names) (view c) s b₀ b′ (behind c h n t at) at end
+          Took reader countStep (productLineOf p names) (view c) s b₀ b′ (behind c h n t at) at end
       full r =
           let over : length b₀ < end + length text =
-          omega (arith, wrote-text .next, kept wrote-text, kept (f .wrote)) in
+          omega (arith, wrote-text .next, wrote-length wrote-text, wrote-length (f .wrote)) in
           stops
           (left-full (f .left) i (omega (arith, f .fits, rw text-here at over)))
-          (rw (next-is reader countStep (textOf p names) (f .reached) i)
+          (rw (next-is reader countStep (productLineOf p names) (f .reached) i)
           (rw text-here at (then (f .wrote) wrote-text .content)))
 
 -- ---- what a caller goes on with
@@ -183,26 +177,26 @@ sets-later x b i [] = refl
 sets-later x b i (y ∷ t) = sets-later x (set b i y) (suc i) t
 
 -- What was written from the start on stands there, whatever was written behind it.
-stands : (b t u : List ℕ) → length t ≤ length b → take (length t) (sets b 0 (t ++ u)) ≡ t
-stands b [] u h = refl
-stands [] (x ∷ t) u h = let no : ⊥ = omega arith in absurd no
-stands (y ∷ b) (x ∷ t) u h = rw (sets-later x b 0 (t ++ u), stands b t u (omega arith))
+front-stands : (b t u : List ℕ) → length t ≤ length b → take (length t) (sets b 0 (t ++ u)) ≡ t
+front-stands b [] u h = refl
+front-stands [] (x ∷ t) u h = let no : ⊥ = omega arith in absurd no
+front-stands (y ∷ b) (x ∷ t) u h = rw (sets-later x b 0 (t ++ u), front-stands b t u (omega arith))
 
 module _ (p : Product) (names : List ℕ) (c : Carried) (s b b′ : List ℕ) (r : Fed) where
   -- What is carried on is what the bytes that were taken make, and what was written is their text, which has room.
   abbrev pub Called : Type 0
   Called =
       Reached reader countStep (view c) s (r .taken) (view (r .carried))
-      × (take (r .end) b′ ≡ texts (textOf p names) (readOn reader (view c) (take (r .taken) s)))
+      × (take (r .end) b′ ≡ texts (productLineOf p names) (readOn reader (view c) (take (r .taken) s)))
       × (r .end ≤ length b)
 
   fed-of : (ready : Bool) → FedOf ready p names c s b b′ r → Called
   fed-of true k = (
     record { inside = k .inside; whole = k .whole; made = k .carried },
-    rw (k .content, k .text-end) (stands b _ _ (omega (arith, k .text-end, k .fits))),
+    rw (k .content, k .text-end) (front-stands b _ _ (omega (arith, k .text-end, k .fits))),
     k .fits,
   )
-  fed-of false k = rw (k .0) (reached.at-start, sym (no-text reader (textOf p names) (view c)), omega arith)
+  fed-of false k = rw (k .0) (reached.at-start, sym (no-text reader (productLineOf p names) (view c)), omega arith)
 
   -- That holds after every call.
   pub called : Feeds p names c s b b′ r → Called

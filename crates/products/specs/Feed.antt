@@ -1,11 +1,5 @@
 -- What is written of a piece of a log, and what is carried on.
-use Prim.Native.Nat.{ℕ, _+_}
-use mathlib.Core.Path.{_≡_}
-use mathlib.Core.Bool.{Bool, true, false}
-use mathlib.Core.List.{List}
-use lib.ListN.{length}
-use Rattle.text.specs.Res.{_≤?_, _∧?_}
-use Rattle.text.specs.Word.{largest}
+use Rattle.text.specs.Prelude.{ℕ, _+_, _≡_, Bool, true, false, List, length, _≤?_, _∧?_, largest}
 use Rattle.log.specs.Fold as fold
 use Rattle.log.specs.Taking.{Took}
 use Rattle.held.specs.declared.Held.{Held}
@@ -13,14 +7,12 @@ use Rattle.walk.specs.Walk as walk
 use Rattle.walk.specs.Readings.{reader}
 use Rattle.listing_text.specs.Trailer.{nothing, countStep}
 use Rattle.listing_text.specs.declared.trailer.Trailer.{Trailer}
-use Rattle.products.specs.Product.{textOf}
-use Rattle.products.specs.declared.Product.{Product}
-use Rattle.products.specs.declared.Carried.{Carried}
-use Rattle.products.specs.declared.Fed.{Fed}
+use Rattle.products.specs.Product.{productLineOf}
+use Rattle.products.specs.declared.{Product.Product, Carried.Carried, Fed.Fed}
 
 -- Before the first piece.
-unfoldable pub fresh : Carried
-fresh = record { walk = walk.fresh; trailer = nothing }
+unfoldable pub atFirst : Carried
+atFirst = record { walk = walk.fresh; trailer = nothing }
 
 -- The same as every fold carries it.
 abbrev pub view : Carried → fold.Carried Held Trailer
@@ -37,8 +29,9 @@ isReady c n =
 -- Of a piece s lines are taken into the lent bytes while their text has room; where a count would pass 64 bits, none.
 abbrev pub FedOf : Bool → Product → List ℕ → Carried → List ℕ → List ℕ → List ℕ → Fed → Type 0
 FedOf true p names c s b b′ r =
-    Took reader countStep (textOf p names) (view c) s b b′ (view (r .carried)) (r .taken) (r .end)
+    Took reader countStep (productLineOf p names) (view c) s b b′ (view (r .carried)) (r .taken) (r .end)
 FedOf false p names c s b b′ r = (r ≡ record { carried = c; taken = 0; end = 0 }) × (b′ ≡ b)
 
+-- A call takes lines where they are ready, and else none.
 abbrev pub Feeds : Product → List ℕ → Carried → List ℕ → List ℕ → List ℕ → Fed → Type 0
 Feeds p names c s b b′ r = FedOf (isReady c (length s)) p names c s b b′ r

@@ -1,7 +1,5 @@
 -- What the desk writes of a log: its listing, or the fields of its lines.
-use Prim.Native.Nat.{ℕ}
-use mathlib.Core.List.{List, [], _++_}
-use Rattle.text.specs.Res.{Res}
+use Rattle.text.specs.Prelude.{ℕ, List, [], _++_, Res}
 use Rattle.records.specs.declared.Record.{Record}
 use Rattle.log.specs.Log.{readings}
 use Rattle.log.specs.Fold.{over, texts}
@@ -20,8 +18,8 @@ productLine Listing names n s m h = listingLine n s m
 productLine Fields names n s m h = fieldsLine n s m h names
 
 -- The line of a reading.
-unfoldable pub textOf : Product → List ℕ → Line-read → List ℕ
-textOf p names x = productLine p names (x .number) (x .line) (x .answer) (x .held)
+unfoldable pub productLineOf : Product → List ℕ → Line-read → List ℕ
+productLineOf p names x = productLine p names (x .number) (x .line) (x .answer) (x .held)
 
 -- What closes the text: a listing's trailer.
 unfoldable pub closing : Product → Trailer → List ℕ
@@ -31,4 +29,4 @@ closing Fields t = []
 -- The whole text: a line for each reading of a fresh walk, and what closes it.
 unfoldable pub productText : Product → List ℕ → List ℕ → List ℕ
 productText p names log =
-    texts (textOf p names) (readings reader log) ++ closing p (over countStep nothing (readings reader log))
+    texts (productLineOf p names) (readings reader log) ++ closing p (over countStep nothing (readings reader log))

@@ -6,7 +6,7 @@ ghost use lib.ListN.{length};
 ghost use Rattle.put.specs.Put.{Wrote};
 ghost use Rattle.records.specs.Record.{readingRes};
 ghost use Rattle.products.specs.Product.{productLine, closing};
-ghost use Rattle.products.specs.Feed.{fresh, isReady, FedOf, Feeds};
+ghost use Rattle.products.specs.Feed.{atFirst, isReady, FedOf, Feeds};
 use held::Held;
 use listing_text::trailer::Trailer;
 use records::Reading;
@@ -35,14 +35,14 @@ pub struct Fed {
 
 // A line with this number, as it was read: what `held` has in force at it, and the names asked for.
 fn put_line(
+    buf: &mut [u8],
+    at: usize,
     product: Product,
     number: u64,
     line: &[u8],
     reading: Reading,
     held: Held,
     names: &[u8],
-    buf: &mut [u8],
-    at: usize,
 ) -> usize
     ensures { λ r.
         ⌜ Wrote (now (buf .entry)) at
@@ -50,8 +50,8 @@ fn put_line(
         (now (buf .exit)) r ⌝ }
 {
     match product {
-        Product::Listing => listing_text::put_line(number, line, reading, buf, at),
-        Product::Fields => fields_text::line::put_line(number, line, reading, held, names, buf, at),
+        Product::Listing => listing_text::put_line(buf, at, number, line, reading),
+        Product::Fields => fields_text::line::put_line(buf, at, number, line, reading, held, names),
     }
 }
 
@@ -73,7 +73,7 @@ fn put_ready(product: Product, c: Carried, lines: &[u8], names: &[u8], buf: &mut
         let reading = got.reading;
         let line = part.view(lines);
         let after = held.after(b'I', line);
-        let to = put_line(product, number + 1, line, reading, after, names, buf, end);
+        let to = put_line(buf, end, product, number + 1, line, reading, after, names);
         if buf.len() < to {
             let at = Cursor {
                 place: base + taken,
@@ -122,7 +122,7 @@ fn is_ready(c: Carried, n: usize) -> bool
 
 // Before the first piece.
 pub fn new() -> Carried
-    ensures { λ r. ⌜ r ≡ fresh ⌝ }
+    ensures { λ r. ⌜ r ≡ atFirst ⌝ }
 {
     let walk = Walk::new();
     let trailer = Trailer::new();
@@ -146,7 +146,7 @@ pub fn put_lines(asked: Product, c: Carried, lines: &[u8], names: &[u8], buf: &m
 }
 
 // What closes the text, after the last piece: a listing's trailer.
-pub fn put_closing(product: Product, c: Carried, buf: &mut [u8], at: usize) -> usize
+pub fn put_closing(buf: &mut [u8], at: usize, product: Product, c: Carried) -> usize
     ensures { λ r. ⌜ Wrote (now (buf .entry)) at (closing product (c .trailer)) (now (buf .exit)) r ⌝ }
 {
     let trailer = c.trailer;

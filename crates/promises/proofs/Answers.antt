@@ -1,6 +1,6 @@
 -- Answers are determined: each crate's laws on its own answers, as one list.
-use mathlib.Core.Path.{_≡_, refl, sym, ap, _∙_}
-use Rattle.text.specs.Res.{Res}
+use Rattle.text.specs.Prelude.{_≡_, Res}
+use Rattle.text.proofs.Prelude.{refl, sym, ap, _∙_}
 use Rattle.text.specs.declared.refusal.Refusal.{Refusal}
 use Rattle.text.proofs.Answers.{made, told, u8-undone, u16-undone, i8-undone, i16-undone}
 use Rattle.part.proofs.Answers.{found-undone, shows-one}

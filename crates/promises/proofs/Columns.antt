@@ -1,22 +1,16 @@
 -- Columns of a text, and what is found in them.
-use Prim.Native.Nat.{ℕ, _+_, _-_, _<_}
-use mathlib.Core.Path.{_≡_, refl, sym}
-use mathlib.Core.List.{List, [], _∷_, _++_}
-use native.Mathlib.Omega.{arith}
+use Rattle.text.specs.Prelude.{ℕ, _+_, _-_, _<_, _≡_, List, [], _∷_, _++_, length, drop, Res, byte, cut, columns}
+use Rattle.text.proofs.Prelude.{arith, refl, sym, length-drop, drop-of-length-le, take-all, drop-cons, drop-drop, is=}
 use native.Mathlib.Nat.{add-sub-cancel-left}
 use native.Mathlib.Numerals.{add-one}
-use lib.ListN.{length, drop, length-drop, take-append-drop, drop-of-length-le}
-use lib.Seq.{drop-drop, drop-cons, take-all}
-use Rattle.text.specs.Res.{Res}
-use Rattle.text.specs.Line.{byte, cut, columns}
-use Rattle.text.proofs.Steps.{is=}
+use lib.ListN.{take-append-drop}
 use Rattle.text.proofs.Finds.{Finds, finds-guard}
 use Rattle.field.specs.Field.{sized, asciiIn, ascii, field}
 
 -- w columns from a on, and all that stands behind them, are all from a on
-pub joined : (a w : ℕ) (s : List ℕ) → cut a (a + w) s ++ drop (a + w) s ≡ drop a s
+pub cut-joined : (a w : ℕ) (s : List ℕ) → cut a (a + w) s ++ drop (a + w) s ≡ drop a s
 unfolding cut
-joined a w s = rw (add-sub-cancel-left a w, ← drop-drop w a s) (take-append-drop w (drop a s))
+cut-joined a w s = rw (add-sub-cancel-left a w, ← drop-drop w a s) (take-append-drop w (drop a s))
 
 -- the same of one column
 pub joined-byte : (a : ℕ) (s : List ℕ) → a < length s → (byte a s ∷ []) ++ drop (a + 1) s ≡ drop a s
@@ -24,7 +18,8 @@ joined-byte a s h = rw (add-one a) (sym (drop-cons s a 0 h))
 
 -- the last column, and the last columns
 pub last-byte : (a : ℕ) (s : List ℕ) → length s ≡ a + 1 → byte a s ∷ [] ≡ drop a s
-last-byte a s l = let e : drop (a + 1) s ≡ [] = drop-of-length-le s {i = a + 1} (omega arith) in rw e at (joined-byte a s (omega arith))
+last-byte a s l = let e : drop (a + 1) s ≡ [] = drop-of-length-le s {i = a + 1} (omega arith) in
+    rw e at (joined-byte a s (omega arith))
 
 pub to-end : (a b : ℕ) (s : List ℕ) → length s ≡ b → cut a b s ≡ drop a s
 unfolding cut

@@ -1,36 +1,31 @@
 -- Coordinates and positions come back.
-use Prim.Native.Nat.{ℕ, _+_}
-use mathlib.Core.Path.{_≡_, refl, sym}
-use mathlib.Core.Bool.{Bool}
-use mathlib.Core.List.{List, [], _∷_, _++_}
+use Rattle.text.specs.Prelude.{ℕ, _+_, _≡_, Bool, List, [], _∷_, _++_, length, drop, _∨?_, byte, cut}
+use Rattle.text.proofs.Prelude.{arith, refl, sym, is=}
 use native.Mathlib.Nat.{zero-add}
-use native.Mathlib.Omega.{arith}
-use lib.ListN.{length, drop}
-use Rattle.text.specs.Res.{_∨?_}
-use Rattle.text.specs.Line.{byte, cut}
-use Rattle.text.proofs.Steps.{is=}
 use Rattle.text.proofs.Finds.{Finds, finds-ok, finds-no, finds-bind, finds-guard, finds-pick}
-use Rattle.coord.specs.Coord.{letterOf, signOf, coordOf, lettered, readCoord, coordText, latitude, longitude}
+use Rattle.coord.specs.Coord.{compassLetter, signOf, coordOf, lettered, readCoord, coordText, latitude, longitude}
 use Rattle.coord.specs.Coord.{latitudeIn, longitudeIn, latitudeText, longitudeText, readBoth, readPosition}
 use Rattle.coord.specs.Coord.{positionText}
 use Rattle.coord.specs.declared.Compass.{Compass}
 use Rattle.coord.specs.declared.Compass.the-variants.{North, South, East, West}
 use Rattle.promises.specs.Odd.{coordPlus, positionPlus}
-use Rattle.promises.proofs.Columns.{joined, last-byte, finds-columns, finds-sized, finds-field}
-use Rattle.promises.proofs.Copies.{Copy, behind, next, rest, last, finds-copy}
+use Rattle.promises.proofs.Columns.{cut-joined, last-byte, finds-columns, finds-sized, finds-field}
+use Rattle.promises.proofs.Copies.{Copy, copy-append, copy-columns, copy-rest, copy-last, finds-copy}
 use Rattle.promises.proofs.Numbers.{nat-copy}
 
-sign-same : (x y : Compass) (l : ℕ) → Finds (signOf x y l) (λ c. letterOf c ≡ l)
+sign-same : (x y : Compass) (l : ℕ) → Finds (signOf x y l) (λ c. compassLetter c ≡ l)
 unfolding signOf
-sign-same x y l = finds-pick (λ e. finds-ok (sym (is= e))) (λ _. finds-pick (λ e. finds-ok (sym (is= e))) (λ _. finds-no))
+sign-same x y l = finds-pick (λ e. finds-ok (sym (is= e)))
+    (λ _. finds-pick (λ e. finds-ok (sym (is= e))) (λ _. finds-no))
 
 -- w columns from the start on, and then those behind them
-front : (s : List ℕ) (w : ℕ) {o p : Bool} {t u : List ℕ} → Copy o (cut 0 w s) t → Copy p (drop w s) u →
+copy-front : (s : List ℕ) (w : ℕ) {o p : Bool} {t u : List ℕ} → Copy o (cut 0 w s) t → Copy p (drop w s) u →
     Copy (o ∨? p) s (t ++ u)
-front s w c d = let j : cut 0 w s ++ drop w s ≡ s = rw zero-add at (joined 0 w s) in rw j at (behind c d)
+copy-front s w c d = let j : cut 0 w s ++ drop w s ≡ s = rw zero-add at (cut-joined 0 w s) in rw j at (copy-append c d)
 
 coord-makes : (d limit g t : ℕ) (c : Compass) →
-    Finds (coordOf limit g t c) (λ v. coordText d v ≡ coordText d (record { degrees = g; «minute_thousandths» = t; sign = c }))
+    Finds (coordOf limit g t c)
+    (λ v. coordText d v ≡ coordText d (record { degrees = g; «minute_thousandths» = t; sign = c }))
 unfolding coordOf
 coord-makes d limit g t c = finds-guard _ (λ _. finds-ok refl)
 
@@ -41,8 +36,8 @@ coord-copy d limit x y s l =
     finds-bind (rw zero-add at (nat-copy 0 d 255 s (omega arith))) (λ g cg.
     finds-bind (nat-copy d 5 65535 s (omega arith)) (λ t ct.
     finds-bind (sign-same x y (byte (d + 5) s)) (λ c ec.
-    let end : letterOf c ∷ [] ≡ drop (d + 5) s = rw ec (last-byte (d + 5) s (omega arith)) in
-    finds-copy (coordText d) (coord-makes d limit g t c) (front s d cg (rw (← end) at (rest s d 5 ct))))))
+    let end : compassLetter c ∷ [] ≡ drop (d + 5) s = rw ec (last-byte (d + 5) s (omega arith)) in
+    finds-copy (coordText d) (coord-makes d limit g t c) (copy-front s d cg (rw (← end) at (copy-rest s d 5 ct))))))
 
 -- ---- latitude and longitude, types apart
 
@@ -62,4 +57,4 @@ position-copy s =
     finds-field _ s 17 (λ l.
     finds-bind (finds-columns _ s 0 8 (latitude-copy (cut 0 8 s))) (λ lat ca.
     finds-bind (finds-columns _ s 8 17 (longitude-copy (cut 8 17 s))) (λ lon co.
-    finds-ok (next s 0 8 ca (last s 8 17 l co)))))
+    finds-ok (copy-columns s 0 8 ca (copy-last s 8 17 l co)))))

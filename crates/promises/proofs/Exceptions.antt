@@ -1,10 +1,9 @@
 -- Each exception is needed, by computation.
-use mathlib.Core.Path.{refl}
-use Rattle.text.specs.Res.{bind, guard, pick, _≤?_, _=?_, _∧?_, _∨?_}
+use Rattle.text.specs.Prelude.{bind, guard, pick, _≤?_, _=?_, _∧?_, _∨?_, cut, columns, readNat, readInt, readDigits}
+use Rattle.text.specs.Prelude.{isDigit, allDigits, zeros, padded, signed, digits, placesOf, valueFrom}
+use Rattle.text.proofs.Prelude.{refl}
 use Rattle.part.specs.Part.{bytesOf, findPart, findMaybe, textOf, partText, maybeText, restFrom, nameFrom}
-use Rattle.text.specs.Number.{isDigit, allDigits, valueFrom, readDigits, readNat, readInt}
-use Rattle.text.specs.Number.{digits, placesIn, placesOf, padded, signed, zeros}
-use Rattle.text.specs.Line.{cut, columns}
+use Rattle.text.specs.Number.{placesIn}
 use Rattle.field.specs.Field.{isAscii, sized, asciiIn, ascii, field, mnemonicText}
 use Rattle.datetime.specs.Three.{readThree, threeText}
 use Rattle.datetime.specs.Time.{timeOf, readTime, timeText}
@@ -12,18 +11,29 @@ use Rattle.datetime.specs.Date.{dateOf, readDate, dateText}
 use Rattle.coord.specs.Coord as coord
 use Rattle.manufacturer.specs.Maker as maker
 use Rattle.extension.specs.Extension.{readDefinition, readExtension, extensionText}
-use Rattle.table.specs.Table.{tableOf, readDefs, readBody, readTable, defsOf, defsText, tableBody, tableText, tableRead}
+use Rattle.table.specs.Table.{tableOf, readDefs, readBody, isTable, readTable, defsOf, defsText, tableBody, tableText}
+use Rattle.table.specs.Table.{tableRead}
 use Rattle.a_record.specs.ARecord.{aNew, aOf, letterForm, readA, tripleText, aBody, aText}
-use Rattle.b_record.specs.BRecord.{fixLetter, fixOf, readHeights, readFix, readB, fixText, bBody, bText}
-use Rattle.c_record.specs.CRecord.{turns, readFlight, readTask, readDeclaration, flightText, taskText}
-use Rattle.c_record.specs.CRecord.{declarationBody, declarationText, readTurnpoint, turnpointBody, turnpointText}
+use Rattle.b_record.specs.BRecord.{validLetter, validOf, readHeights, readFix, readB, tailText, bBody, bText}
+use Rattle.c_record.specs.CRecord.{turns, readFlight, readTask, readDeclaration, flightText, taskText, declarationBody}
+use Rattle.c_record.specs.CRecord.{declarationText, readTurnpoint, turnpointBody, turnpointText}
 use Rattle.records.specs.Record.{kindOf, readC, readKind, readLine, recordText, recordTable, answerPrinted, reprinted}
 use Rattle.promises.specs.Spelt.{speltFrom, spelt}
 use Rattle.promises.specs.Back.{Needed}
 
 pub needed : Needed
 unfolding
-    bind guard pick _≤?_ _=?_ _∧?_ _∨?_ bytesOf findPart findMaybe textOf partText maybeText restFrom nameFrom isDigit allDigits valueFrom readDigits readNat readInt digits placesIn placesOf padded signed zeros isAscii cut columns sized asciiIn ascii field mnemonicText readThree threeText timeOf readTime timeText dateOf readDate dateText coord.letterOf coord.signOf coord.coordOf coord.lettered coord.readCoord coord.coordText coord.latitude coord.longitude coord.latitudeIn coord.longitudeIn coord.readBoth coord.readPosition coord.positionText maker.letterOf maker.spelt maker.tripleOf maker.known maker.firstOf maker.isLetter maker.letterMaker readDefinition readExtension extensionText tableOf readDefs readBody readTable defsOf defsText tableBody tableText tableRead aNew aOf letterForm readA tripleText aBody aText fixLetter fixOf readHeights readFix readB fixText bBody bText turns readFlight readTask readDeclaration flightText taskText declarationBody declarationText readTurnpoint turnpointBody turnpointText kindOf readC readKind readLine recordText recordTable answerPrinted reprinted speltFrom spelt
+    bind guard pick _≤?_ _=?_ _∧?_ _∨?_ bytesOf findPart findMaybe textOf partText maybeText restFrom nameFrom isDigit
+    allDigits valueFrom readDigits readNat readInt digits placesIn placesOf padded signed zeros isAscii cut columns
+    sized asciiIn ascii field mnemonicText readThree threeText timeOf readTime timeText dateOf readDate dateText
+    coord.compassLetter coord.signOf coord.coordOf coord.lettered coord.readCoord coord.coordText coord.latitude
+    coord.longitude coord.latitudeIn coord.longitudeIn coord.readBoth coord.readPosition coord.positionText
+    maker.letterOf maker.tripleSpelt maker.tripleOf maker.known maker.firstOf maker.isLetter maker.letterMaker
+    readDefinition readExtension extensionText tableOf readDefs readBody isTable readTable defsOf defsText tableBody
+    tableText tableRead aNew aOf letterForm readA tripleText aBody aText validLetter validOf readHeights readFix
+    readB tailText bBody bText turns readFlight readTask readDeclaration flightText taskText declarationBody
+    declarationText readTurnpoint turnpointBody turnpointText kindOf readC readKind readLine recordText recordTable
+    answerPrinted reprinted speltFrom spelt
 needed = record {
   letter-form = refl;
   time = refl;

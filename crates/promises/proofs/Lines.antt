@@ -1,26 +1,18 @@
 -- Lines of every kind come back, exactly where they are not odd.
-use Prim.Native.Nat.{ℕ}
-use mathlib.Core.Path.{_≡_, refl, sym, ap, _∙_}
-use mathlib.Core.Bool.{false}
-use mathlib.Core.List.{List}
-use native.Mathlib.Omega.{arith}
+use Rattle.text.specs.Prelude.{ℕ, _≡_, false, List, length, Res, ok, bind, guard, pick, _=?_, _∨?_, byte}
+use Rattle.text.proofs.Prelude.{arith, refl, sym, ap, _∙_, take-all, on, pass, yes≤, no≤, is=, never}
 use native.Mathlib.Nat.{le-refl}
-use lib.ListN.{length}
-use lib.Seq.{take-all}
-use Rattle.text.specs.Res.{Res, ok, bind, guard, pick, _=?_, _∨?_}
-use Rattle.text.specs.Line.{byte}
 use Rattle.part.specs.Part.{bytesOf, findPart, textOf, partText}
-use Rattle.text.proofs.Steps.{is=, yes≤, no≤, never, on, pass}
 use Rattle.text.proofs.Finds.{Finds, finds-ok, finds-bind, finds-guard}
 use Rattle.print.specs.Print.{answerTo, leftBy}
 use Rattle.table.specs.Table.{readTable, tableRead, tableText}
 use Rattle.table.specs.declared.Table.{Table}
 use Rattle.c_record.specs.CRecord.{turns}
 use Rattle.records.specs.Record.{isNotTaken, kindOf, whole, readC, readKind, readLine, recordText}
-use Rattle.log.proofs.Ends.{either}
+use Rattle.log.proofs.Ends.{by-test}
 use Rattle.promises.specs.Odd.{declarationOdd, turnpointOdd, tableOdd, lineOdd}
 use Rattle.promises.specs.Back.{Back, Reprints, ComesBack}
-use Rattle.promises.proofs.Parts.{Again, always}
+use Rattle.promises.proofs.Parts.{Again, printed-always}
 use Rattle.promises.proofs.Recorders.{a-again}
 use Rattle.promises.proofs.Fixes.{b-again}
 use Rattle.promises.proofs.Tasks.{declaration-again, turnpoint-again}
@@ -36,7 +28,7 @@ module _ (s : List ℕ) where
       Finds (readC s) (λ r. Again (pick (turns s) (turnpointOdd s) (declarationOdd s)) s (recordText r t s))
   unfolding readC recordText pick
   c-again h =
-      finds-guard _ (λ _. either (turns s)
+      finds-guard _ (λ _. by-test (turns s)
       (λ e. rw e (finds-bind (turnpoint-again s h) (λ r a. finds-ok a)))
       (λ e. rw e (finds-bind (declaration-again s h) (λ r a. finds-ok a))))
 
@@ -50,7 +42,7 @@ module _ (s : List ℕ) where
 
   -- by whether the line begins with the letter b
   begins : {A : Type 0} (b : ℕ) → (byte 0 s ≡ b → A) → ((byte 0 s =? b) ≡ false → A) → A
-  begins b p q = either (byte 0 s =? b) (λ e. p (is= e)) q
+  begins b p q = by-test (byte 0 s =? b) (λ e. p (is= e)) q
 
   kind-again : Finds (readKind (kindOf (byte 0 s)) s) (λ r. Again (lineOdd s) s (recordText r t s))
   unfolding kindOf readKind lineOdd recordText pick _=?_ _∨?_
@@ -61,9 +53,9 @@ module _ (s : List ℕ) where
       begins 72 (λ h. rw h (finds-bind (h-again s h) (λ r a. finds-ok a))) (λ nh.
       begins 73 (λ h. rw h (finds-bind (table-line 73 h) (λ ds a. finds-ok a))) (λ ni.
       begins 74 (λ h. rw h (finds-bind (table-line 74 h) (λ ds a. finds-ok a))) (λ nj.
-      either (isNotTaken (byte 0 s))
-      (λ e. rw (na, nb, nc, nh, ni, nj, e) (finds-ok (always whole-text)))
-      (λ e. rw (na, nb, nc, nh, ni, nj, e) (finds-ok (always whole-text)))))))))
+      by-test (isNotTaken (byte 0 s))
+      (λ e. rw (na, nb, nc, nh, ni, nj, e) (finds-ok (printed-always whole-text)))
+      (λ e. rw (na, nb, nc, nh, ni, nj, e) (finds-ok (printed-always whole-text)))))))))
 
   pub line-again : Finds (readLine s) (λ r. Again (lineOdd s) s (recordText r t s))
   unfolding readLine

@@ -1,15 +1,9 @@
 -- A lookup by name refuses in the named cases alone, and gives the stated value in every other.
-use Prim.Native.Nat.{ℕ, _+_}
-use mathlib.Core.Path.{_≡_, refl, sym, ap, subst, _∙_}
-use mathlib.Core.Bool.{Bool, true, false}
-use mathlib.Core.List.{List, [], _∷_}
-use native.Mathlib.Omega.{arith}
-use Rattle.text.specs.Res.{Res, ok, no, bind, guard, pick}
+use Rattle.text.specs.Prelude.{ℕ, _+_, _≡_, Bool, true, false, List, [], _∷_, Res, ok, no, bind, guard, pick}
+use Rattle.text.proofs.Prelude.{arith, refl, sym, ap, _∙_, subst, on, pass, yes≤, is≤, isnt≤}
 use Rattle.part.specs.Part.{findPart}
-use Rattle.text.specs.declared.refusal.Refusal.{Refusal}
-use Rattle.text.specs.declared.refusal.Refusal.the-variants.{NoDefinition}
+use Rattle.text.specs.declared.{refusal.Refusal.Refusal, refusal.Refusal.the-variants.NoDefinition}
 use Rattle.part.specs.declared.Part.{Part}
-use Rattle.text.proofs.Steps.{on, pass, yes≤, is≤, isnt≤}
 use Rattle.part.proofs.Parts.{inside}
 use Rattle.text.proofs.Finds.{Finds, finds-guard}
 use Rattle.field.specs.declared.Mnemonic.{Mnemonic}
@@ -18,8 +12,8 @@ use Rattle.extension.specs.Value.{findValue}
 use Rattle.extension.specs.declared.Extension.{Extension}
 use Rattle.held.specs.Held.{sameName, firstNamed, define, lookUp}
 use Rattle.held.specs.declared.Held.{Held}
-use Rattle.promises.specs.Lookup.{Defined, Why, no-table, over-99, no-name, Refuses, Gives}
-use Rattle.promises.specs.Lookup.{outside, start-in-base, end-before-start, past-the-rest}
+use Rattle.promises.specs.Lookup.{Defined, Why, no-table, over-99, no-name, Refuses, Gives, outside}
+use Rattle.promises.specs.Lookup.{start-in-base, end-before-start, past-the-rest}
 
 -- Where a row of answers refuses with n, W holds: one law for each way of putting answers in a row.
 pub record Stops {A : Type 0} (m : Res A) (W : Refusal → Type 0) : Type 0 where

@@ -1,29 +1,23 @@
 -- Numbers come back: what is read from w columns prints in w columns, and as it was written exactly where it was
 -- written with no plus and is not minus zero.
-use Prim.Native.Nat.{ℕ, suc, _+_, _-_, _≤_}
-use mathlib.Core.Path.{_≡_, refl, sym, ap, _∙_}
-use mathlib.Core.Bool.{false}
-use mathlib.Core.List.{List}
-use native.Mathlib.Omega.{arith}
-use lib.ListN.{length}
-use lib.IntN.{ℤ, pos, negsuc}
-use Rattle.text.specs.Res.{pick, _=?_, _∧?_}
-use Rattle.text.specs.Number.{readNat, readInt, padded, signed, zeros, plus, minusZero}
-use Rattle.text.proofs.Steps.{neither, fails}
+use Rattle.text.specs.Prelude.{ℕ, suc, _+_, _-_, _≤_, _≡_, false, List, length, ℤ, pos, negsuc, pick, _=?_, _∧?_, cut}
+use Rattle.text.specs.Prelude.{columns, readNat, readInt, zeros, plus, padded, signed}
+use Rattle.text.proofs.Prelude.{arith, refl, sym, ap, _∙_, fails, neither}
+use Rattle.text.specs.Number.{minusZero}
 use Rattle.text.proofs.Finds.{Finds}
 use Rattle.text.proofs.Decimal.{value-padded, zeros-value}
 use Rattle.text.proofs.RoundTrip.{first-padded, padded-read, signed-read, nat-columns, int-columns}
-use Rattle.text.specs.Line.{cut, columns}
 use Rattle.text.proofs.Lines.{cut-length}
-use Rattle.log.proofs.Ends.{either}
+use Rattle.log.proofs.Ends.{by-test}
 use Rattle.promises.specs.Odd.{signedOdd}
 use Rattle.promises.proofs.Columns.{finds-columns}
-use Rattle.promises.proofs.Copies.{Copy, none}
+use Rattle.promises.proofs.Copies.{Copy, neither-odd}
 
 -- ---- a printed number is not odd
 
 not-zeros : (w n : ℕ) → zeros (padded w (suc n)) ≡ false
-not-zeros w n = either (zeros (padded w (suc n))) (λ e. absurd (omega (arith, zeros-value (padded w (suc n)) e, value-padded w (suc n)))) (λ e. e)
+not-zeros w n = by-test (zeros (padded w (suc n)))
+    (λ e. absurd (omega (arith, zeros-value (padded w (suc n)) e, value-padded w (suc n)))) (λ e. e)
 
 plain-padded : (w n : ℕ) → plus (padded w n) ≡ false
 unfolding plus
@@ -31,8 +25,8 @@ plain-padded w n = first-padded w n 43 (omega arith)
 
 plain-signed : (w : ℕ) (z : ℤ) → signedOdd (signed w z) ≡ false
 unfolding signed signedOdd plus minusZero _=?_ _∧?_ pick
-plain-signed w (pos n) = none (plain-padded w n) (fails _ (first-padded w n 45 (omega arith)))
-plain-signed w (negsuc n) = none refl (not-zeros (w - 1) n)
+plain-signed w (pos n) = neither-odd (plain-padded w n) (fails _ (first-padded w n 45 (omega arith)))
+plain-signed w (negsuc n) = neither-odd refl (not-zeros (w - 1) n)
 
 -- ---- in columns of a line
 

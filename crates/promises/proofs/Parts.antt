@@ -1,17 +1,10 @@
 -- The texts of a line's parts, and what a whole line is printed as.
-use Prim.Native.Nat.{ℕ, _+_, _≤_}
-use mathlib.Core.Path.{_≡_, refl, sym, ap}
-use mathlib.Core.Bool.{Bool, false}
-use mathlib.Core.List.{List}
-use native.Mathlib.Omega.{arith}
+use Rattle.text.specs.Prelude.{ℕ, _+_, _≤_, _≡_, Bool, false, List, length, drop, Res, ok, bind, pick, _≤?_, cut}
+use Rattle.text.proofs.Prelude.{arith, refl, sym, ap, drop-of-length-le, on, pass, yes≤, is≤}
 use native.Mathlib.Nat.{add-sub-cancel-left}
-use lib.ListN.{length, drop, drop-of-length-le}
-use Rattle.text.specs.Res.{Res, ok, bind, pick, _≤?_}
 use Rattle.part.specs.Part.{bytesOf, findPart, findMaybe, textOf, partText, maybeText, restFrom, nameFrom}
-use Rattle.text.proofs.Steps.{on, pass, yes≤, is≤}
 use Rattle.text.proofs.Lines.{cut-rest}
-use Rattle.text.specs.Line.{cut}
-use Rattle.log.proofs.Ends.{either}
+use Rattle.log.proofs.Ends.{by-test}
 use Rattle.promises.proofs.Copies.{Copy}
 
 module _ (a : ℕ) (s : List ℕ) where
@@ -26,7 +19,7 @@ module _ (a : ℕ) (s : List ℕ) where
   -- an empty name is none, and prints as nothing
   pub name-text : a ≤ length s → ok (drop a s) ≡ maybeText (nameFrom a s) s
   unfolding maybeText findMaybe nameFrom partText textOf bytesOf bind pick
-  name-text h = either (length s ≤? a) (λ e. rw (e, drop-of-length-le s {i = a} (is≤ e))) (λ e. rw e (rest-text h))
+  name-text h = by-test (length s ≤? a) (λ e. rw (e, drop-of-length-le s {i = a} (is≤ e))) (λ e. rw e (rest-text h))
 
 -- ---- a line
 
@@ -37,8 +30,8 @@ pub record Again (odd : Bool) (s : List ℕ) (m : Res (List ℕ)) : Type 0 where
   pub same : odd ≡ false → text ≡ s
   pub only : text ≡ s → odd ≡ false
 
-pub again : {o : Bool} {s t : List ℕ} {m : Res (List ℕ)} → ok t ≡ m → Copy o s t → Again o s m
-again {t} e c = record { text = t; prints = e; same = c .same; only = c .only }
+pub printed-again : {o : Bool} {s t : List ℕ} {m : Res (List ℕ)} → ok t ≡ m → Copy o s t → Again o s m
+printed-again {t} e c = record { text = t; prints = e; same = c .same; only = c .only }
 
-pub always : {s : List ℕ} {m : Res (List ℕ)} → ok s ≡ m → Again false s m
-always {s} e = record { text = s; prints = e; same = λ _. refl; only = λ _. refl }
+pub printed-always : {s : List ℕ} {m : Res (List ℕ)} → ok s ≡ m → Again false s m
+printed-always {s} e = record { text = s; prints = e; same = λ _. refl; only = λ _. refl }

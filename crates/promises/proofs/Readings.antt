@@ -1,31 +1,38 @@
 -- The starred readings hold, by computation.
-use mathlib.Core.Path.{refl}
-use Rattle.text.specs.Res.{bind, guard, pick, _≤?_, _=?_, _∧?_, _∨?_}
+use Rattle.text.specs.Prelude.{bind, guard, pick, _≤?_, _=?_, _∧?_, _∨?_, cut, columns, readNat, readInt, readDigits}
+use Rattle.text.specs.Prelude.{isDigit, allDigits, zeros, padded, signed, digits, placesOf, valueFrom}
+use Rattle.text.proofs.Prelude.{refl}
 use Rattle.part.specs.Part.{bytesOf, findPart, findMaybe, textOf, partText, maybeText, restFrom, nameFrom}
-use Rattle.text.specs.Number.{isDigit, allDigits, valueFrom, readDigits, readNat, readInt}
-use Rattle.text.specs.Number.{digits, placesIn, placesOf, padded, signed, zeros}
-use Rattle.text.specs.Line.{cut, columns}
+use Rattle.text.specs.Number.{placesIn}
 use Rattle.field.specs.Field.{isAscii, sized, asciiIn, ascii, field, mnemonicText}
 use Rattle.datetime.specs.Three.{readThree, threeText}
 use Rattle.datetime.specs.Time.{timeOf, readTime, timeText, secondsOf}
 use Rattle.datetime.specs.Date.{dateOf, readDate, dateText}
-use Rattle.coord.specs.Coord.{letterOf, signOf, coordOf, lettered, readCoord, latitude, readLatitude}
+use Rattle.coord.specs.Coord.{compassLetter, signOf, coordOf, lettered, readCoord, latitude, readLatitude}
 use Rattle.manufacturer.specs.Maker as maker
 use Rattle.extension.specs.Extension.{readDefinition, readExtension}
-use Rattle.table.specs.Table.{readDefs, readBody, readTable}
+use Rattle.table.specs.Table.{readDefs, readBody, isTable, readTable}
 use Rattle.extension.specs.Value.{findValue}
 use Rattle.a_record.specs.ARecord.{aNew, aOf, letterForm, longForm, readTriple, readA, tripleText, aBody, aText}
-use Rattle.c_record.specs.CRecord.{turns, readFlight, readTask, readDeclaration}
-use Rattle.c_record.specs.CRecord.{flightText, taskText, declarationBody, declarationText}
+use Rattle.c_record.specs.CRecord.{turns, readFlight, readTask, readDeclaration, flightText, taskText, declarationBody}
+use Rattle.c_record.specs.CRecord.{declarationText}
 use Rattle.h_record.specs.HRecord.{sourceByte, sourceOf, colonIn, named, readH}
-use Rattle.records.specs.Record.{isNotTaken, kindOf, whole, readC, readKind}
-use Rattle.records.specs.Record.{readLine, recordText, recordTable, answerPrinted, reprinted}
+use Rattle.records.specs.Record.{isNotTaken, kindOf, whole, readC, readKind, readLine, recordText, recordTable}
+use Rattle.records.specs.Record.{answerPrinted, reprinted}
 use Rattle.promises.specs.Spelt.{speltFrom, spelt}
 use Rattle.promises.specs.Starred.{Starred}
 
 pub starred : Starred
 unfolding
-    bind guard pick _≤?_ _=?_ _∧?_ _∨?_ bytesOf findPart findMaybe textOf partText maybeText restFrom nameFrom isDigit allDigits valueFrom readDigits readNat readInt digits placesIn placesOf padded signed zeros isAscii cut columns sized asciiIn ascii field mnemonicText readThree threeText timeOf readTime timeText secondsOf dateOf readDate dateText letterOf signOf coordOf lettered readCoord latitude readLatitude maker.letterOf maker.spelt maker.tripleOf maker.known maker.firstOf maker.isLetter maker.isTriple maker.letterMaker maker.tripleMaker readDefinition readExtension readDefs readBody readTable findValue aNew aOf letterForm longForm readTriple readA tripleText aBody aText turns readFlight readTask readDeclaration flightText taskText declarationBody declarationText sourceByte sourceOf colonIn named readH isNotTaken kindOf whole readC readKind readLine recordText recordTable answerPrinted reprinted speltFrom spelt
+    bind guard pick _≤?_ _=?_ _∧?_ _∨?_ bytesOf findPart findMaybe textOf partText maybeText restFrom nameFrom isDigit
+    allDigits valueFrom readDigits readNat readInt digits placesIn placesOf padded signed zeros isAscii cut columns
+    sized asciiIn ascii field mnemonicText readThree threeText timeOf readTime timeText secondsOf dateOf readDate
+    dateText compassLetter signOf coordOf lettered readCoord latitude readLatitude maker.letterOf maker.tripleSpelt
+    maker.tripleOf maker.known maker.firstOf maker.isLetter maker.isTriple maker.letterMaker maker.tripleMaker
+    readDefinition readExtension readDefs readBody isTable readTable findValue aNew aOf letterForm longForm
+    readTriple readA tripleText aBody aText turns readFlight readTask readDeclaration flightText taskText
+    declarationBody declarationText sourceByte sourceOf colonIn named readH isNotTaken kindOf whole readC readKind
+    readLine recordText recordTable answerPrinted reprinted speltFrom spelt
 starred = record {
   line-empty = refl;
   line-HFFTY = refl;

@@ -1,9 +1,6 @@
 -- What the program `fields` shows as printed is what the record prints.
-use Prim.Native.Nat.{ℕ, _+_}
-use mathlib.Core.Path.{_≡_, refl, sym, ap, _∙_}
-use mathlib.Core.List.{List, [], _∷_}
-use lib.ListN.{length}
-use Rattle.text.specs.Res.{Res, ok, no, bind}
+use Rattle.text.specs.Prelude.{ℕ, _+_, _≡_, List, [], _∷_, length, Res, ok, no, bind}
+use Rattle.text.proofs.Prelude.{refl, sym, ap, _∙_}
 use Rattle.text.proofs.Finds.{Finds, finds-ok, finds-no, finds-bind, finds-guard}
 use Rattle.part.specs.Part.{bytesOf, textOf, partText, maybeText}
 use Rattle.part.specs.Part as part
@@ -16,7 +13,6 @@ use Rattle.c_record.specs.CRecord.{declarationText, turnpointText}
 use Rattle.h_record.specs.HRecord.{hText}
 use Rattle.records.specs.Record.{readLine, recordText, recordPiece, recordTable, answerPrinted, reprinted}
 use Rattle.records.specs.declared.Record.{Record}
-use Rattle.records.specs.declared.Record.the-variants as rec
 use Rattle.log.specs.Line.{lineText}
 use Rattle.log.specs.Log.{chunks, readFrom, readings}
 use Rattle.log.specs.Fold.{texts}
@@ -37,33 +33,33 @@ text-is-shown (no n) s = finds-no
 -- the text of a record is its piece
 text-is-piece : (r : Record) (t : Table) (s : List ℕ) → Finds (recordText r t s) (λ x. recordPiece r t s ≡ x)
 unfolding recordText recordPiece aText bText declarationText turnpointText hText tableText partText maybeText
-text-is-piece (rec.A r) t s =
+text-is-piece (Record.A r) t s =
     finds-bind (text-is-shown _ s) (λ id i. finds-bind (text-is-shown _ s) (λ rest e. finds-ok (rw (i, e))))
-text-is-piece (rec.B r) t s = finds-bind (text-is-shown _ s) (λ rest e. finds-ok (rw e))
-text-is-piece (rec.CDeclaration r) t s = finds-bind (text-is-shown _ s) (λ name e. finds-ok (rw e))
-text-is-piece (rec.CTurnpoint r) t s = finds-bind (text-is-shown _ s) (λ name e. finds-ok (rw e))
-text-is-piece (rec.H r) t s =
+text-is-piece (Record.B r) t s = finds-bind (text-is-shown _ s) (λ rest e. finds-ok (rw e))
+text-is-piece (Record.CDeclaration r) t s = finds-bind (text-is-shown _ s) (λ name e. finds-ok (rw e))
+text-is-piece (Record.CTurnpoint r) t s = finds-bind (text-is-shown _ s) (λ name e. finds-ok (rw e))
+text-is-piece (Record.H r) t s =
     finds-bind (text-is-shown _ s) (λ m i.
     finds-bind (text-is-shown _ s) (λ n j.
     finds-bind (text-is-shown _ s) (λ d k. finds-ok (rw (i, j, k)))))
-text-is-piece rec.I t s = finds-guard _ (λ _. finds-ok refl)
-text-is-piece rec.J t s = finds-guard _ (λ _. finds-ok refl)
-text-is-piece (rec.NotTaken p) t s = text-is-shown _ s
-text-is-piece (rec.Unrecognised p) t s = text-is-shown _ s
+text-is-piece Record.I t s = finds-guard _ (λ _. finds-ok refl)
+text-is-piece Record.J t s = finds-guard _ (λ _. finds-ok refl)
+text-is-piece (Record.NotTaken p) t s = text-is-shown _ s
+text-is-piece (Record.Unrecognised p) t s = text-is-shown _ s
 
 -- a record prints the same beside the table of its line and beside its own
 own-table : (r : Record) (s : List ℕ)
     → recordText r (tableRead (readTable s) .table) s ≡ recordText r (recordTable r s) s
 unfolding recordText recordTable
-own-table (rec.A r) s = refl
-own-table (rec.B r) s = refl
-own-table (rec.CDeclaration r) s = refl
-own-table (rec.CTurnpoint r) s = refl
-own-table (rec.H r) s = refl
-own-table rec.I s = refl
-own-table rec.J s = refl
-own-table (rec.NotTaken p) s = refl
-own-table (rec.Unrecognised p) s = refl
+own-table (Record.A r) s = refl
+own-table (Record.B r) s = refl
+own-table (Record.CDeclaration r) s = refl
+own-table (Record.CTurnpoint r) s = refl
+own-table (Record.H r) s = refl
+own-table Record.I s = refl
+own-table Record.J s = refl
+own-table (Record.NotTaken p) s = refl
+own-table (Record.Unrecognised p) s = refl
 
 -- an accepted line prints as the piece of its record
 piece-printed : (s : List ℕ) (r : Record) → readLine s ≡ ok r → reprinted s ≡ ok (recordPiece r (recordTable r s) s)
@@ -93,9 +89,9 @@ lines-printed names n p h (c ∷ cs) =
     rw (fields-printed (readLine l) next names l refl, lines-printed names (n + 1) (p + length c) next cs)
 
 -- both statements hold
-pub shown : Shown
+pub shown-as-printed : Shown
 unfolding fieldsText readings
-shown = record {
+shown-as-printed = record {
   piece = piece-printed;
   fields = λ names log. lines-printed names 0 0 (reader .start) (chunks log);
 }

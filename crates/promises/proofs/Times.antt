@@ -1,28 +1,25 @@
 -- Times and dates come back.
-use Prim.Native.Nat.{ℕ}
-use mathlib.Core.Path.{_≡_, refl}
-use mathlib.Core.List.{List}
-use native.Mathlib.Omega.{arith}
-use lib.ListN.{length}
-use Rattle.text.specs.Res.{Res}
+use Rattle.text.specs.Prelude.{ℕ, _≡_, List, length, Res}
+use Rattle.text.proofs.Prelude.{arith, refl}
 use Rattle.text.proofs.Finds.{Finds, finds-ok, finds-bind, finds-guard}
 use Rattle.datetime.specs.Three.{readThree, threeText}
 use Rattle.datetime.specs.Time.{timeOf, readTime, timeText}
 use Rattle.datetime.specs.Date.{dateOf, readDate, dateText}
 use Rattle.promises.specs.Odd.{threePlus}
 use Rattle.promises.proofs.Columns.{finds-field}
-use Rattle.promises.proofs.Copies.{Copy, next, last, finds-copy}
+use Rattle.promises.proofs.Copies.{Copy, copy-columns, copy-last, finds-copy}
 use Rattle.promises.proofs.Numbers.{nat-copy}
 
 -- three numbers, and the text of what is made of them
-three-copy : {A : Type 0} (make : ℕ → ℕ → ℕ → Res A) (text : A → List ℕ) → ((a b c : ℕ) → Finds (make a b c) (λ v. text v ≡ threeText a b c))
+three-copy : {A : Type 0} (make : ℕ → ℕ → ℕ → Res A) (text : A → List ℕ)
+    → ((a b c : ℕ) → Finds (make a b c) (λ v. text v ≡ threeText a b c))
     → (s : List ℕ) → length s ≡ 6 → Finds (readThree make s) (λ v. Copy (threePlus s) s (text v))
 unfolding readThree threePlus threeText
 three-copy make text makes s l =
     finds-bind (nat-copy 0 2 255 s (omega arith)) (λ a ca.
     finds-bind (nat-copy 2 2 255 s (omega arith)) (λ b cb.
     finds-bind (nat-copy 4 2 255 s (omega arith)) (λ c cc.
-    finds-copy text (makes a b c) (next s 0 2 ca (next s 2 2 cb (last s 4 6 l cc))))))
+    finds-copy text (makes a b c) (copy-columns s 0 2 ca (copy-columns s 2 2 cb (copy-last s 4 6 l cc))))))
 
 time-makes : (h m s : ℕ) → Finds (timeOf h m s) (λ t. timeText t ≡ threeText h m s)
 unfolding timeOf timeText

@@ -1,29 +1,19 @@
 -- A fresh walk reads every line of the log once, in order, before it is done; and so does the desk's reader.
-use Prim.Native.Nat.{ℕ, zero, suc, _+_, _-_, _≤_, _<_}
-use mathlib.Core.Path.{_≡_, refl, sym, ap, _∙_}
-use mathlib.Core.Bool.{Bool, true, false}
-use mathlib.Core.List.{List}
-use native.Mathlib.Omega.{arith}
-use denote.Ref.{RefT, now}
-use lib.ListN.{length, take, drop}
-use lib.Seq.{take-all}
-use Rattle.text.specs.Res.{pick, _≤?_, _∧?_}
-use Rattle.text.specs.Word.{largest}
-use Rattle.text.proofs.Steps.{second, no≤, is≤, isnt≤, fails}
+use Rattle.text.specs.Prelude.{ℕ, zero, suc, _+_, _-_, _≤_, _<_, _≡_, Bool, true, false, List, length, take, drop, RefT}
+use Rattle.text.specs.Prelude.{now, pick, _≤?_, _∧?_, largest}
+use Rattle.text.proofs.Prelude.{arith, refl, sym, ap, _∙_, take-all, second, no≤, is≤, isnt≤, fails}
 use Rattle.part.specs.Part.{bytesOf}
 use Rattle.records.specs.Record.{readLine}
 use Rattle.log.specs.Line.{cutAt}
 use Rattle.log.specs.Log.{chunks, readFrom, readings}
-use Rattle.log.proofs.Ends.{either}
+use Rattle.log.proofs.Ends.{by-test}
 use Rattle.log.proofs.Cuts.{read-past, read-line, next-gt, next-le, cut-viewed}
 use Rattle.held.specs.Held.{noTable, heldAfter}
 use Rattle.held.specs.declared.Held.{Held}
 use Rattle.walk.specs.Cursor.{start, past, nextOf}
 use Rattle.walk.specs.Walk.{fresh, stepTo, stepOf}
 use Rattle.walk.specs.Readings.{reader, readBy, walked}
-use Rattle.walk.specs.declared.cursor.Cursor.{Cursor}
-use Rattle.walk.specs.declared.Walk.{Walk}
-use Rattle.walk.specs.declared.Taken.the-variants.{Done}
+use Rattle.walk.specs.declared.{cursor.Cursor.Cursor, Walk.Walk, Taken.the-variants.Done}
 use Rattle.walk.proofs.Laws.{viewed, step-on}
 use Rattle.reader.specs.Reader.{readerAt, handedBy, handedOut}
 use Rattle.listing_text.specs.Listing.{listed, listingText}
@@ -60,7 +50,7 @@ walked-from s (suc k) w i n =
     let on = read-line reader s (w .at .number) (w .at .place) (w .held) in
     let off = read-past reader s (w .at .number) (w .at .place) (w .held) in
     let le = next-le s (w .at .place) i in
-    either (w .at .place + 1 ≤? length s)
+    by-test (w .at .place + 1 ≤? length s)
     (λ e.
     let p : w .at .place < length s = omega (arith, is≤ e) in
     let ih = walked-from s k (then s w) le (omega (arith, next-gt s (w .at .place) p)) in
@@ -81,7 +71,7 @@ handed-walked log (suc k) c h i =
     let s = now log in
     let w : Walk = record { at = c; held = h } in
     let ih = handed-walked log k (then s w .at) (then s w .held) (next-le s (c .place) i) in
-    either ((c .place + 1 ≤? length s) ∧? (c .number + 1 ≤? largest))
+    by-test ((c .place + 1 ≤? length s) ∧? (c .number + 1 ≤? largest))
     (λ e. rw (e, cut-viewed s (c .place) i, viewed (readLine (at s w)), ih))
     (λ e. rw e)
 

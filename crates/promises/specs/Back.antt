@@ -1,19 +1,13 @@
--- A line read and printed comes back, exactly where it is not odd: said through the contracts, so of what the programs do.
-use Prim.Native.Nat.{ℕ, _≤_, _<_}
-use mathlib.Core.Path.{_≡_}
-use mathlib.Core.Bool.{true, false}
-use mathlib.Core.List.{List, _++_}
-use lib.ListN.{length, drop}
-use Rattle.text.specs.Res.{Res, ok, no}
-use Rattle.text.specs.Line.{byte}
+-- A line read and printed comes back, exactly where it is not odd: said through the contracts, so of what the programs
+-- do.
+use Rattle.text.specs.Prelude.{ℕ, _≤_, _<_, code, _≡_, true, false, List, _++_, length, drop, Res, ok, no, byte}
 use Rattle.text.specs.declared.refusal.Refusal.the-variants.{NoRoom}
 use Rattle.print.specs.Print.{printedRes, Prints}
 use Rattle.print.specs.declared.printed.Printed.{Printed}
 use Rattle.table.specs.Table.{readTable, tableRead}
 use Rattle.table.specs.declared.TableRead.{TableRead}
 use Rattle.records.specs.Record.{readLine, recordText, reprinted, readingRes}
-use Rattle.records.specs.declared.Record.{Record}
-use Rattle.records.specs.declared.Reading.the-variants.{Accepted}
+use Rattle.records.specs.declared.{Record.Record, Reading.the-variants.Accepted}
 use Rattle.promises.specs.Odd.{lineOdd}
 use Rattle.promises.specs.Spelt.{spelt}
 
@@ -22,11 +16,14 @@ pub record Parsed (s : List ℕ) (r : Record) (t : TableRead) : Type 0 where
   pub answer : readingRes (Accepted r) ≡ readLine s
   pub table : t ≡ tableRead (readTable s)
 
--- The text m is the line s itself: into bytes that are long enough a printer writes the line; else it answers 10 and changes nothing.
+-- The text m is the line s itself: into bytes that are long enough a printer writes the line; else it answers 10 and
+-- changes nothing.
 pub record Back (s : List ℕ) (m : Res (List ℕ)) : Type 0 where
   pub text : m ≡ ok s
-  pub room : (b b′ : List ℕ) (p : Printed) → Prints m b b′ p → length s ≤ length b → (printedRes p ≡ ok (length s)) × (b′ ≡ s ++ drop (length s) b)
-  pub no-room : (b b′ : List ℕ) (p : Printed) → Prints m b b′ p → length b < length s → (printedRes p ≡ no NoRoom) × (b′ ≡ b)
+  pub room : (b b′ : List ℕ) (p : Printed) → Prints m b b′ p → length s ≤ length b →
+      (printedRes p ≡ ok (length s)) × (b′ ≡ s ++ drop (length s) b)
+  pub no-room : (b b′ : List ℕ) (p : Printed) → Prints m b b′ p → length b < length s →
+      (printedRes p ≡ no NoRoom) × (b′ ≡ b)
 
 -- The record of an accepted line s has the text m.
 pub record Reprints (s : List ℕ) (m : Res (List ℕ)) : Type 0 where
@@ -37,7 +34,7 @@ pub record Reprints (s : List ℕ) (m : Res (List ℕ)) : Type 0 where
   -- An odd line never does.
   pub odd : lineOdd s ≡ true → m ≡ ok s → ⊥
   -- H lines always come back.
-  pub headers : byte 0 s ≡ 72 → Back s m
+  pub headers : byte 0 s ≡ code "H" → Back s m
 
 -- `Record::print` prints `recordText` of the record, its table and its line.
 abbrev pub ComesBack : Type 0
@@ -45,15 +42,20 @@ ComesBack = (s : List ℕ) (r : Record) (t : TableRead) → Parsed s r t → Rep
 
 -- ---- each exception is needed: accepted lines and what they print as
 
+-- Each exception is needed: a line of it that does not come back.
 pub record Needed : Type 0 where
   -- The A line was in letter form.
   pub letter-form : reprinted (spelt "AC00069") ≡ ok (spelt "ACAM00069")
   -- A number was written with `+`: B lines,
   pub time : reprinted (spelt "B10+5304712345N01102500EA0152301561") ≡ ok (spelt "B1005304712345N01102500EA0152301561")
-  pub latitude : reprinted (spelt "B101530+712345N01102500EA0152301561") ≡ ok (spelt "B1015300712345N01102500EA0152301561")
-  pub longitude : reprinted (spelt "B1015304712345N011+2500EA0152301561") ≡ ok (spelt "B1015304712345N01102500EA0152301561")
-  pub pressure-height : reprinted (spelt "B1015304712345N01102500EA+152301561") ≡ ok (spelt "B1015304712345N01102500EA0152301561")
-  pub gps-height : reprinted (spelt "B1015304712345N01102500EA01523+1561") ≡ ok (spelt "B1015304712345N01102500EA0152301561")
+  pub latitude : reprinted (spelt "B101530+712345N01102500EA0152301561")
+      ≡ ok (spelt "B1015300712345N01102500EA0152301561")
+  pub longitude : reprinted (spelt "B1015304712345N011+2500EA0152301561")
+      ≡ ok (spelt "B1015304712345N01102500EA0152301561")
+  pub pressure-height : reprinted (spelt "B1015304712345N01102500EA+152301561")
+      ≡ ok (spelt "B1015304712345N01102500EA0152301561")
+  pub gps-height : reprinted (spelt "B1015304712345N01102500EA01523+1561")
+      ≡ ok (spelt "B1015304712345N01102500EA0152301561")
   -- C lines,
   pub turnpoint : reprinted (spelt "C47+2345N01102500E") ≡ ok (spelt "C4702345N01102500E")
   pub date : reprinted (spelt "C+30718092044000000000204") ≡ ok (spelt "C030718092044000000000204")
@@ -66,7 +68,9 @@ pub record Needed : Type 0 where
   pub start : reprinted (spelt "I01+638FXA") ≡ ok (spelt "I010638FXA")
   pub end : reprinted (spelt "J0108+9HDT") ≡ ok (spelt "J010809HDT")
   -- A height was `-0000`.
-  pub pressure-zero : reprinted (spelt "B1015304712345N01102500EA-000001561") ≡ ok (spelt "B1015304712345N01102500EA0000001561")
-  pub gps-zero : reprinted (spelt "B1015304712345N01102500EA01523-0000") ≡ ok (spelt "B1015304712345N01102500EA0152300000")
+  pub pressure-zero : reprinted (spelt "B1015304712345N01102500EA-000001561")
+      ≡ ok (spelt "B1015304712345N01102500EA0000001561")
+  pub gps-zero : reprinted (spelt "B1015304712345N01102500EA01523-0000")
+      ≡ ok (spelt "B1015304712345N01102500EA0152300000")
   -- A count was `-0`.
   pub count-zero : reprinted (spelt "C2307180920440000000002-0") ≡ ok (spelt "C230718092044000000000200")

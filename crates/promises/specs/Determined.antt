@@ -2,11 +2,7 @@
 -- a definition; Shows, of a slice; Wrote, of a piece; Prints, of a printer; the answer and the bytes it leaves, as one
 -- value ≡ a definition; Took, of lines taken into lent bytes. In each way, any two permitted answers are equal, and so
 -- are the bytes that they leave. (Of the first there is nothing to prove.)
-use Prim.Native.Nat.{ℕ}
-use mathlib.Core.Path.{_≡_}
-use mathlib.Core.List.{List}
-use denote.Ref.{RefT, now}
-use Rattle.text.specs.Res.{Res}
+use Rattle.text.specs.Prelude.{ℕ, _≡_, List, RefT, now, Res}
 use Rattle.text.specs.Number.{u8Res, u16Res, i8Res, i16Res}
 use Rattle.part.specs.Part.{foundRes, Shows}
 use Rattle.part.specs.declared.Part.{Part}
@@ -18,7 +14,7 @@ use Rattle.datetime.specs.Date.{dateRes}
 use Rattle.coord.specs.Coord.{latitudeRes, longitudeRes, positionRes}
 use Rattle.extension.specs.Extension.{extensionRes}
 use Rattle.a_record.specs.ARecord.{aRes}
-use Rattle.b_record.specs.BRecord.{fixRes, bRes}
+use Rattle.b_record.specs.BRecord.{validRes, bRes}
 use Rattle.c_record.specs.CRecord.{declarationRes, turnpointRes}
 use Rattle.h_record.specs.HRecord.{hRes}
 use Rattle.records.specs.Record.{readingRes}
@@ -31,6 +27,7 @@ use Rattle.bench_loops.specs.Timed.{Out}
 abbrev pub Tells : {A E : Type 0} → (E → Res A) → Type 0
 Tells {A} {E} view = (r q : E) → view r ≡ view q → r ≡ q
 
+-- Whatever form a contract takes, two answers that it permits are equal.
 pub record Determined : Type 1 where
   pub u8 : Tells u8Res
   pub u16 : Tells u16Res
@@ -44,7 +41,7 @@ pub record Determined : Type 1 where
   pub position : Tells positionRes
   pub extension : Tells extensionRes
   pub a : Tells aRes
-  pub fix : Tells fixRes
+  pub fix : Tells validRes
   pub b : Tells bRes
   pub declaration : Tells declarationRes
   pub turnpoint : Tells turnpointRes
@@ -58,6 +55,7 @@ pub record Determined : Type 1 where
   pub outs : {o : Out} {r₁ r₂ : ℕ} {b₁ b₂ : List ℕ} → o ≡ record { sum = r₁; bytes = b₁ } →
       o ≡ record { sum = r₂; bytes = b₂ } →
       (r₁ ≡ r₂) × (b₁ ≡ b₂)
-  pub took : {A H T : Type 0} {R : Reader A H} {step : T → LineRead A H → T} {f : LineRead A H → List ℕ} {c c₁ c₂ : Carried H T}
+  pub took : {A H T : Type 0} {R : Reader A H} {step : T → LineRead A H → T} {f : LineRead A H → List ℕ}
+      {c c₁ c₂ : Carried H T}
       {s b b₁ b₂ : List ℕ} {n₁ n₂ e₁ e₂ : ℕ} → Took R step f c s b b₁ c₁ n₁ e₁ → Took R step f c s b b₂ c₂ n₂ e₂ →
       (c₁ ≡ c₂) × (n₁ ≡ n₂) × (e₁ ≡ e₂) × (b₁ ≡ b₂)

@@ -1,8 +1,5 @@
 -- What the program `fields` shows as printed is what `Record::print` prints.
-use mathlib.Core.Path.{_≡_}
-use mathlib.Core.List.{List, _++_, [], _∷_}
-use Prim.Native.Nat.{ℕ}
-use Rattle.text.specs.Res.{Res, ok, no}
+use Rattle.text.specs.Prelude.{ℕ, _≡_, List, [], _∷_, _++_, Res, ok, no, LF}
 use Rattle.records.specs.Record.{readLine, recordTable, recordPiece, reprinted}
 use Rattle.records.specs.declared.Record.{Record}
 use Rattle.log.specs.Log.{readings}
@@ -15,7 +12,8 @@ use Rattle.fields_text.specs.Line.{bookShown, printedShown, fieldsText}
 
 -- The fields of an accepted line, its verdict and its text as printed; a refused line has none.
 unfoldable pub fieldsAs : Res Record → Res (List ℕ) → Held → List ℕ → List ℕ → List ℕ
-fieldsAs (ok r) (ok printed) h names s = recordShown r (recordTable r s) h names s ++ (bookShown r ++ printedShown printed)
+fieldsAs (ok r) (ok printed) h names s = recordShown r (recordTable r s) h names s
+    ++ (bookShown r ++ printedShown printed)
 fieldsAs (ok r) (no n) h names s = []
 fieldsAs (no n) printed h names s = []
 
@@ -23,8 +21,9 @@ fieldsAs (no n) printed h names s = []
 unfoldable pub lineAs : List ℕ → Line-read → List ℕ
 lineAs names x =
     headText (x .number) (x .line) (x .answer)
-    ++ (fieldsAs (x .answer) (reprinted (x .line)) (x .held) names (x .line) ++ (10 ∷ []))
+    ++ (fieldsAs (x .answer) (reprinted (x .line)) (x .held) names (x .line) ++ (LF ∷ []))
 
+-- What `fields` shows of a log is what its records print.
 pub record Shown : Type 0 where
   -- The piece of an accepted line's record is its text, as `Record::print` writes it.
   pub piece : (s : List ℕ) (r : Record) → readLine s ≡ ok r → reprinted s ≡ ok (recordPiece r (recordTable r s) s)

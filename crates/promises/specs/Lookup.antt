@@ -1,10 +1,5 @@
 -- The cases in which a lookup by name refuses, and the value that it gives in every other.
-use Prim.Native.Nat.{ℕ, _+_, _-_, _≤_, _<_}
-use mathlib.Core.Path.{_≡_}
-use mathlib.Core.Bool.{true, false}
-use mathlib.Core.List.{List}
-use lib.ListN.{length}
-use Rattle.text.specs.Res.{ok, no}
+use Rattle.text.specs.Prelude.{ℕ, _+_, _-_, _≤_, _<_, _≡_, true, false, List, length, ok, no}
 use Rattle.text.specs.declared.refusal.Refusal.{Refusal}
 use Rattle.text.specs.declared.refusal.Refusal.the-variants.{NoDefinition, OutsideLine, BadExtension, MissingExtension}
 use Rattle.part.specs.declared.Part.{Part}
@@ -38,6 +33,11 @@ module _ (base : ℕ) (rest : Part) (h : Held) (name : Mnemonic) (s : List ℕ) 
   -- In every other it gives the part of the rest from start - (base + 1) up to end - base.
   abbrev pub Gives : Type 0
   Gives =
-      (e : Extension) → Defined e → rest .start + rest .len ≤ length s → base < e .«start_byte» → e .«start_byte» ≤ e .«end_byte»
+      (e : Extension) → Defined e → rest .start + rest .len ≤ length s → base < e .«start_byte»
+      → e .«start_byte» ≤ e .«end_byte»
       → e .«end_byte» - base ≤ rest .len
-      → lookUp base rest h name s ≡ ok (record { start = rest .start + (e .«start_byte» - (base + 1)); len = (e .«end_byte» - base) - (e .«start_byte» - (base + 1)) })
+      → lookUp base rest h name s
+      ≡ ok (record {
+        start = rest .start + (e .«start_byte» - (base + 1));
+        len = (e .«end_byte» - base) - (e .«start_byte» - (base + 1));
+      })

@@ -1,12 +1,8 @@
 -- The lines that print otherwise than they were written: an A line in letter form; a number written with `+`; a height
 -- `-0000`; a count `-0`. All of them are seen in the line's bytes.
-use Prim.Native.Nat.{ℕ, zero, suc, _+_, _-_, _/_}
-use mathlib.Core.Bool.{Bool, false}
-use mathlib.Core.List.{List}
-use lib.ListN.{length, drop}
-use Rattle.text.specs.Res.{pick, _=?_, _∨?_}
-use Rattle.text.specs.Line.{byte, cut}
-use Rattle.text.specs.Number.{plus, minusZero}
+use Rattle.text.specs.Prelude.{ℕ, zero, suc, _+_, _-_, _/_, code, Bool, false, List, length, drop, pick, _=?_, _∨?_}
+use Rattle.text.specs.Prelude.{byte, cut, plus}
+use Rattle.text.specs.Number.{minusZero}
 use Rattle.a_record.specs.ARecord.{letterForm}
 use Rattle.c_record.specs.CRecord.{turns}
 
@@ -45,7 +41,8 @@ fixOdd s = threePlus (cut 1 7 s) ∨? positionPlus (cut 7 24 s) ∨? signedOdd (
 
 -- A declaration: the date 1-7, the time 7-13, the flight date 13-19, the task 19-23 or the count 23-25.
 unfoldable pub declarationOdd : List ℕ → Bool
-declarationOdd s = threePlus (cut 1 7 s) ∨? threePlus (cut 7 13 s) ∨? threePlus (cut 13 19 s) ∨? plus (cut 19 23 s) ∨? signedOdd (cut 23 25 s)
+declarationOdd s = threePlus (cut 1 7 s) ∨? threePlus (cut 7 13 s) ∨? threePlus (cut 13 19 s) ∨? plus (cut 19 23 s)
+    ∨? signedOdd (cut 23 25 s)
 
 -- A turnpoint: the position 1-18.
 unfoldable pub turnpointOdd : List ℕ → Bool
@@ -58,8 +55,8 @@ tableOdd s = plus (cut 1 3 s) ∨? defsPlus ((length s - 3) / 7) (drop 3 s)
 -- A line, by its first byte. H lines, and lines that are not taken or not recognised, are never odd.
 unfoldable pub lineOdd : List ℕ → Bool
 lineOdd s =
-    pick (byte 0 s =? 65) (letterForm s)
-    (pick (byte 0 s =? 66) (fixOdd s)
-    (pick (byte 0 s =? 67) (pick (turns s) (turnpointOdd s) (declarationOdd s))
-    (pick ((byte 0 s =? 73) ∨? (byte 0 s =? 74)) (tableOdd s)
+    pick (byte 0 s =? code "A") (letterForm s)
+    (pick (byte 0 s =? code "B") (fixOdd s)
+    (pick (byte 0 s =? code "C") (pick (turns s) (turnpointOdd s) (declarationOdd s))
+    (pick ((byte 0 s =? code "I") ∨? (byte 0 s =? code "J")) (tableOdd s)
     false)))

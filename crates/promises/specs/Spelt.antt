@@ -1,9 +1,8 @@
 -- A text as the bytes of its ASCII characters, so that readings can be written as document 01 writes them.
-use Prim.Native.Nat.{ℕ, zero, suc, _+_}
-use Prim.Native.Char.{code}
-use Prim.Native.String.{String, charAt, len}
-use mathlib.Core.List.{List, [], _∷_}
+use Rattle.text.specs.Prelude.{ℕ, zero, suc, _+_, code, String, charAt, List, [], _∷_}
+use Prim.Native.String.{len}
 
+-- The characters of a text from a place on, as bytes.
 unfoldable pub speltFrom : ℕ → ℕ → String → List ℕ
 speltFrom zero i s = []
 speltFrom (suc k) i s = code (charAt s i) ∷ speltFrom k (i + 1) s

@@ -1,17 +1,11 @@
 -- A fresh walk reads every line of the log once, in order, before it is done; and so does the desk's reader.
-use Prim.Native.Nat.{ℕ, _≤_}
-use mathlib.Core.Path.{_≡_}
-use mathlib.Core.List.{List}
-use denote.Ref.{RefT, now}
-use lib.ListN.{length, take}
-use Rattle.text.specs.Word.{largest}
+use Rattle.text.specs.Prelude.{ℕ, _≤_, _≡_, List, length, take, RefT, now, largest}
 use Rattle.log.specs.Log.{readings}
 use Rattle.held.specs.Held.{noTable}
 use Rattle.walk.specs.Cursor.{start}
 use Rattle.walk.specs.Walk.{fresh, stepOf}
 use Rattle.walk.specs.Readings.{reader, walked}
-use Rattle.walk.specs.declared.Walk.{Walk}
-use Rattle.walk.specs.declared.Taken.the-variants.{Done}
+use Rattle.walk.specs.declared.{Walk.Walk, Taken.the-variants.Done}
 use Rattle.reader.specs.Reader.{readerAt, handedOut}
 use Rattle.listing_text.specs.Listing.{listed, listingText}
 

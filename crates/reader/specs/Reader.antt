@@ -1,7 +1,5 @@
 -- A reader of a lent log, and what it shows at its place.
-use Prim.Native.Nat.{ℕ, zero, suc}
-use mathlib.Core.List.{List, [], _∷_}
-use denote.Ref.{RefT, now}
+use Rattle.text.specs.Prelude.{ℕ, zero, suc, code, List, [], _∷_, RefT, now}
 use Rattle.part.specs.Part.{bytesOf, findPart, shown}
 use Rattle.part.specs.declared.Part.{Part}
 use Rattle.log.specs.Line.{cutAt}
@@ -10,8 +8,7 @@ use Rattle.held.specs.Held.{heldAfter}
 use Rattle.held.specs.declared.Held.{Held}
 use Rattle.walk.specs.Cursor.{nextOf}
 use Rattle.walk.specs.Readings.{Line-read}
-use Rattle.walk.specs.declared.cursor.Cursor.{Cursor}
-use Rattle.walk.specs.declared.cursor.Next.{Next}
+use Rattle.walk.specs.declared.{cursor.Cursor.Cursor, cursor.Next.Next}
 use Rattle.walk.specs.declared.cursor.Next.the-variants.{Line, Done}
 use Rattle.reader.specs.declared.LogReader.{LogReader}
 
@@ -42,7 +39,7 @@ handedBy s h place (Line cut after) later =
       place = cut .line .start;
       line = textAt place s;
       answer = readLine (textAt place s);
-      held = heldAfter 73 h (textAt place s);
+      held = heldAfter (code "I") h (textAt place s);
     }
     ∷ later after
 
@@ -52,4 +49,4 @@ unfoldable pub handedOut : ℕ → LogReader → Held → List Line-read
 handedOut zero r h = []
 handedOut (suc k) r h =
     handedBy (now (r .log)) h (r .place) (nextOf (now (r .log)) (cursorOf r))
-    (λ after. handedOut k (readerAt (r .log) after) (heldAfter 73 h (textAt (r .place) (now (r .log)))))
+    (λ after. handedOut k (readerAt (r .log) after) (heldAfter (code "I") h (textAt (r .place) (now (r .log)))))

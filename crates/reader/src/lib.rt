@@ -57,18 +57,21 @@ pub fn moved<'a>(r: LogReader<'a>, at: Cursor) -> LogReader<'a>
     }
 }
 
+// Reads the line at the place.
 pub fn next_line<'a>(r: LogReader<'a>) -> Next
     ensures { λ n. ⌜ n ≡ nextOf (now (r .entry .log)) (cursorOf (r .entry)) ⌝ }
 {
     next_at(r.log, r.place, r.number)
 }
 
+// The line at the place, as a part of the lent log.
 pub fn line<'a>(r: LogReader<'a>) -> &'a [u8]
     ensures { λ l. ⌜ Shows (r .entry .log) (partAt (r .entry .place) (now (r .entry .log))) l ⌝ }
 {
     line_at(r.log, r.place)
 }
 
+// What is held after the line at the place.
 pub fn table<'a>(r: LogReader<'a>, held: Held) -> Held
     ensures { λ h. ⌜ h ≡ heldAfter 73 held (textAt (r .entry .place) (now (r .entry .log))) ⌝ }
 {

@@ -1,14 +1,8 @@
 -- The names asked for: how many they are, and each of them.
-use Prim.Native.Nat.{ℕ, zero, suc, _+_, _*_, _/_, _≤_, _<_, min}
-use mathlib.Core.Path.{_≡_, refl, ap, _∙_}
-use mathlib.Core.Bool.{Bool, true, false}
-use mathlib.Core.List.{List, [], _∷_}
+use Rattle.text.specs.Prelude.{ℕ, zero, suc, _+_, _*_, _/_, _≤_, _<_, min, _≡_, Bool, true, false, List, [], _∷_}
+use Rattle.text.specs.Prelude.{length, drop, getD, pick}
+use Rattle.text.proofs.Prelude.{arith, refl, ap, _∙_, length-take, drop-cons, getD-take, first, second, yes≤, no≤}
 use native.Mathlib.Nat.{suc-add}
-use native.Mathlib.Omega.{arith}
-use lib.ListN.{length, drop, getD, length-take}
-use lib.Seq.{drop-cons, getD-take}
-use Rattle.text.specs.Res.{pick}
-use Rattle.text.proofs.Steps.{first, second, yes≤, no≤}
 use Rattle.table.specs.Table.{empty, defsOf}
 use Rattle.extension.specs.declared.Extension.{Extension}
 use Rattle.table.specs.declared.Table.{Table}
@@ -27,16 +21,17 @@ in-threes (a ∷ (b ∷ [])) = refl
 in-threes (a ∷ (b ∷ (c ∷ s))) = omega (arith, in-threes s)
 
 -- the i-th is the i-th three of bytes
-pub spelt : (s : List ℕ) (i : ℕ) → i < length (namesIn s)
-    → drop i (namesIn s) ≡ record { 0 = getD s (3 * i) 0; 1 = getD s (3 * i + 1) 0; 2 = getD s (3 * i + 2) 0 } ∷ drop (suc i) (namesIn s)
+pub name-at : (s : List ℕ) (i : ℕ) → i < length (namesIn s)
+    → drop i (namesIn s) ≡ record { 0 = getD s (3 * i) 0; 1 = getD s (3 * i + 1) 0; 2 = getD s (3 * i + 2) 0 } ∷ drop
+    (suc i) (namesIn s)
 unfolding namesIn
-spelt [] i h = absurd (omega arith)
-spelt (a ∷ []) i h = absurd (omega arith)
-spelt (a ∷ (b ∷ [])) i h = absurd (omega arith)
-spelt (a ∷ (b ∷ (c ∷ s))) zero h = refl
-spelt (a ∷ (b ∷ (c ∷ s))) (suc i) h =
+name-at [] i h = absurd (omega arith)
+name-at (a ∷ []) i h = absurd (omega arith)
+name-at (a ∷ (b ∷ [])) i h = absurd (omega arith)
+name-at (a ∷ (b ∷ (c ∷ s))) zero h = refl
+name-at (a ∷ (b ∷ (c ∷ s))) (suc i) h =
     let z : 3 * suc i ≡ suc (suc (suc (3 * i))) = omega arith in
-    simp (z, suc-add) (spelt s i (omega arith))
+    simp (z, suc-add) (name-at s i (omega arith))
 
 -- ---- the definitions of a table
 
@@ -46,10 +41,11 @@ unfolding defsOf
 count-defs t = length-take (t .count) (t .defs)
 
 -- the i-th is that of the i-th slot
-pub defined : (t : Table) (i : ℕ) → i < length (defsOf t) →
+pub definition-at : (t : Table) (i : ℕ) → i < length (defsOf t) →
     drop i (defsOf t) ≡ getD (t .defs) i empty ∷ drop (suc i) (defsOf t)
 unfolding defsOf
-defined t i more = drop-cons (defsOf t) i empty more ∙ rw (getD-take (t .count) (t .defs) i empty (omega (arith, count-defs t)))
+definition-at t i more = drop-cons (defsOf t) i empty more
+    ∙ rw (getD-take (t .count) (t .defs) i empty (omega (arith, count-defs t)))
 
 -- ---- the names of the table in force
 
@@ -94,7 +90,7 @@ module _ (h : Held) where
     -- the i-th is that of the i-th definition
     pub named : drop i (tableNames h) ≡ getD (h .table .defs) i empty .mnemonic ∷ drop (suc i) (tableNames h)
     unfolding namesOf
-    named = rw (in-force set, drop-names, drop-names, defined (h .table) i has)
+    named = rw (in-force set, drop-names, drop-names, definition-at (h .table) i has)
 
 -- ---- the names asked for
 

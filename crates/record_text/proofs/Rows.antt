@@ -1,10 +1,7 @@
 -- Texts of elements in a row: one law for the loops that write them.
-use Prim.Native.Nat.{ℕ, zero, suc, _+_}
-use mathlib.Core.Path.{_≡_, ap}
-use mathlib.Core.List.{List, [], _∷_, _++_, append-nil}
+use Rattle.text.specs.Prelude.{ℕ, zero, suc, _+_, _≡_, List, [], _∷_, _++_, take, drop}
+use Rattle.text.proofs.Prelude.{arith, ap, append-nil}
 use native.Mathlib.Numerals.{add-one}
-use native.Mathlib.Omega.{arith}
-use lib.ListN.{take, drop}
 use Rattle.put.specs.Put.{Wrote}
 use Rattle.put.proofs.Writing.{then}
 use Rattle.log.specs.Fold.{texts}
@@ -19,7 +16,8 @@ take-next (y ∷ l) zero e = cc
 take-next (y ∷ l) (suc i) e = ap (λ t. y ∷ t) (take-next l i e)
 
 -- a turn: the first i are written, and then the next
-pub in-turn : {A : Type 0} (one : A → List ℕ) {b b′ b″ : List ℕ} {at j k : ℕ} (l : List A) (i : ℕ) {x : A} {xs : List A} →
+pub in-turn : {A : Type 0} (one : A → List ℕ) {b b′ b″ : List ℕ} {at j k : ℕ} (l : List A) (i : ℕ) {x : A} {xs : List A}
+    →
     drop i l ≡ x ∷ xs → Wrote b at (texts one (take i l)) b′ j → Wrote b′ j (one x) b″ k →
     Wrote b at (texts one (take (i + 1) l)) b″ k
 unfolding texts

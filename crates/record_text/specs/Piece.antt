@@ -1,73 +1,69 @@
 -- Fields in plain decimal, each behind the one space that parts it from the field before.
-use Prim.Native.Nat.{ℕ}
-use mathlib.Core.List.{List, [], _∷_, _++_}
-use Rattle.text.specs.Number.{padded}
-use Rattle.part.specs.declared.Part.{Part}
-use Rattle.part.specs.declared.MaybePart.{MaybePart}
-use Rattle.part.specs.declared.MaybePart.the-variants as maybe
+use Rattle.text.specs.Prelude.{ℕ, code, List, [], _∷_, _++_, padded}
+use Rattle.part.specs.declared.{Part.Part, MaybePart.MaybePart}
 use Rattle.field.specs.Field.{mnemonicText}
-use Rattle.datetime.specs.declared.Time.{Time}
-use Rattle.datetime.specs.declared.Date.{Date}
-use Rattle.coord.specs.Coord.{letterOf}
-use Rattle.coord.specs.declared.RawCoord.{RawCoord}
-use Rattle.coord.specs.declared.position.RawPosition.{RawPosition}
-use Rattle.manufacturer.specs.declared.MaybeLetter.{MaybeLetter}
-use Rattle.manufacturer.specs.declared.MaybeLetter.the-variants as letter
-use Rattle.manufacturer.specs.declared.MaybeTriple.{MaybeTriple}
-use Rattle.manufacturer.specs.declared.MaybeTriple.the-variants as triple
+use Rattle.datetime.specs.declared.{Time.Time, Date.Date}
+use Rattle.coord.specs.Coord.{compassLetter}
+use Rattle.coord.specs.declared.{RawCoord.RawCoord, position.RawPosition.RawPosition}
+use Rattle.manufacturer.specs.declared.{MaybeLetter.MaybeLetter, MaybeTriple.MaybeTriple}
 use Rattle.b_record.specs.BRecord.{pressureText, gpsText}
-use Rattle.b_record.specs.declared.PressureAlt.{PressureAlt}
-use Rattle.b_record.specs.declared.GpsAlt.{GpsAlt}
+use Rattle.b_record.specs.declared.{PressureAlt.PressureAlt, GpsAlt.GpsAlt}
 use Rattle.c_record.specs.declared.MaybeDate.{MaybeDate}
-use Rattle.c_record.specs.declared.MaybeDate.the-variants as date
 
-unfoldable pub number : ℕ → List ℕ
-number n = (32 ∷ []) ++ padded 1 n
+-- A number in plain decimal.
+unfoldable pub numberShown : ℕ → List ℕ
+numberShown n = (code " " ∷ []) ++ padded 1 n
 
+-- A pressure height in plain decimal.
 unfoldable pub pressureShown : PressureAlt → List ℕ
-pressureShown h = (32 ∷ []) ++ pressureText 1 h
+pressureShown h = (code " " ∷ []) ++ pressureText 1 h
 
+-- A GPS height in plain decimal.
 unfoldable pub gpsShown : GpsAlt → List ℕ
-gpsShown h = (32 ∷ []) ++ gpsText 1 h
+gpsShown h = (code " " ∷ []) ++ gpsText 1 h
 
 -- A byte as it is.
 unfoldable pub byteShown : ℕ → List ℕ
-byteShown b = (32 ∷ []) ++ (b ∷ [])
+byteShown b = (code " " ∷ []) ++ (b ∷ [])
 
 -- START+LEN, counted from the line's start.
-unfoldable pub partText : Part → List ℕ
-partText p = padded 1 (p .start) ++ ((43 ∷ []) ++ padded 1 (p .len))
+unfoldable pub placeText : Part → List ℕ
+placeText p = padded 1 (p .start) ++ ((code "+" ∷ []) ++ padded 1 (p .len))
 
+-- A part of the line, as START+LEN.
 unfoldable pub partShown : Part → List ℕ
-partShown p = (32 ∷ []) ++ partText p
+partShown p = (code " " ∷ []) ++ placeText p
 
 -- `-` for none.
 unfoldable pub maybeShown : MaybePart → List ℕ
-maybeShown maybe.Missing = byteShown 45
-maybeShown (maybe.At p) = partShown p
+maybeShown MaybePart.Missing = byteShown (code "-")
+maybeShown (MaybePart.At p) = partShown p
 
 -- Numbers parted by a mark.
-unfoldable pub two : ℕ → ℕ → ℕ → List ℕ
-two mark b c = (mark ∷ []) ++ (padded 1 b ++ ((mark ∷ []) ++ padded 1 c))
+unfoldable pub twoMarked : ℕ → ℕ → ℕ → List ℕ
+twoMarked mark b c = (mark ∷ []) ++ (padded 1 b ++ ((mark ∷ []) ++ padded 1 c))
 
-unfoldable pub three : ℕ → ℕ → ℕ → ℕ → List ℕ
-three mark a b c = number a ++ two mark b c
+-- Three numbers parted by a mark.
+unfoldable pub threeShown : ℕ → ℕ → ℕ → ℕ → List ℕ
+threeShown mark a b c = numberShown a ++ twoMarked mark b c
 
 -- H:M:S.
 unfoldable pub timeShown : Time → List ℕ
-timeShown t = three 58 (t .hours) (t .minutes) (t .seconds)
+timeShown t = threeShown (code ":") (t .hours) (t .minutes) (t .seconds)
 
 -- D/M/Y.
 unfoldable pub dateShown : Date → List ℕ
-dateShown d = three 47 (d .day) (d .month) (d .year)
+dateShown d = threeShown (code "/") (d .day) (d .month) (d .year)
 
+-- A flight date, `-` for none.
 unfoldable pub flightShown : MaybeDate → List ℕ
-flightShown date.Missing = byteShown 45
-flightShown (date.On d) = dateShown d
+flightShown MaybeDate.Missing = byteShown (code "-")
+flightShown (MaybeDate.On d) = dateShown d
 
 -- Degrees, thousandths and letter.
 unfoldable pub coordShown : RawCoord → List ℕ
-coordShown c = number (c .degrees) ++ (number (c .«minute_thousandths») ++ byteShown (letterOf (c .sign)))
+coordShown c = numberShown (c .degrees)
+    ++ (numberShown (c .«minute_thousandths») ++ byteShown (compassLetter (c .sign)))
 
 -- Latitude's, then longitude's.
 unfoldable pub positionShown : RawPosition → List ℕ
@@ -75,9 +71,10 @@ positionShown p = coordShown (p .lat .0) ++ coordShown (p .lon .0)
 
 -- A maker's codes as they are.
 unfoldable pub letterShown : MaybeLetter → List ℕ
-letterShown letter.Missing = byteShown 45
-letterShown (letter.Letter b) = byteShown b
+letterShown MaybeLetter.Missing = byteShown (code "-")
+letterShown (MaybeLetter.Letter b) = byteShown b
 
+-- A maker's triple, `-` for none.
 unfoldable pub tripleShown : MaybeTriple → List ℕ
-tripleShown triple.Missing = byteShown 45
-tripleShown (triple.Triple t) = (32 ∷ []) ++ mnemonicText t
+tripleShown MaybeTriple.Missing = byteShown (code "-")
+tripleShown (MaybeTriple.Triple t) = (code " " ∷ []) ++ mnemonicText t

@@ -1,45 +1,45 @@
 -- The fields of a record, one form for each kind.
-use Prim.Native.Nat.{ℕ}
-use mathlib.Core.List.{List, [], _∷_, _++_}
-use Rattle.text.specs.Number.{padded, signed}
+use Rattle.text.specs.Prelude.{ℕ, code, List, [], _∷_, _++_, padded, signed}
 use Rattle.field.specs.Field.{mnemonicText}
 use Rattle.manufacturer.specs.Maker as maker
 use Rattle.table.specs.Table.{defsOf}
 use Rattle.extension.specs.declared.Extension.{Extension}
 use Rattle.table.specs.declared.Table.{Table}
 use Rattle.a_record.specs.declared.ARecord.{ARecord}
-use Rattle.b_record.specs.BRecord.{fixLetter}
+use Rattle.b_record.specs.BRecord.{validLetter}
 use Rattle.b_record.specs.declared.BRecord.{BRecord}
-use Rattle.c_record.specs.declared.CRecordDeclaration.{CRecordDeclaration}
-use Rattle.c_record.specs.declared.CRecordTurnpoint.{CRecordTurnpoint}
+use Rattle.c_record.specs.declared.{CRecordDeclaration.CRecordDeclaration, CRecordTurnpoint.CRecordTurnpoint}
 use Rattle.h_record.specs.HRecord.{sourceByte}
 use Rattle.h_record.specs.declared.HRecord.{HRecord}
 use Rattle.records.specs.declared.Record.{Record}
-use Rattle.records.specs.declared.Record.the-variants as rec
 use Rattle.held.specs.declared.Held.{Held}
 use Rattle.log.specs.Fold.{texts}
-use Rattle.record_text.specs.Piece.{number, pressureShown, gpsShown, byteShown, partShown, maybeShown, timeShown, dateShown}
-use Rattle.record_text.specs.Piece.{flightShown, positionShown, letterShown, tripleShown}
+use Rattle.record_text.specs.Piece.{numberShown, pressureShown, gpsShown, byteShown, partShown, maybeShown}
+use Rattle.record_text.specs.Piece.{timeShown, dateShown, flightShown, positionShown, letterShown, tripleShown}
 use Rattle.record_text.specs.Value.{askedFor, valueShown}
 
 -- The letter code and the triple code as the maker gives them, unique id, id extension.
 unfoldable pub aShown : ARecord → List ℕ
-aShown r = letterShown (maker.letterOf (r .manufacturer)) ++ (tripleShown (maker.tripleOf (r .manufacturer)) ++ (partShown (r .«unique_id») ++ maybeShown (r .«id_extension»)))
+aShown r = letterShown (maker.letterOf (r .manufacturer))
+    ++ (tripleShown (maker.tripleOf (r .manufacturer))
+    ++ (partShown (r .«unique_id») ++ maybeShown (r .«id_extension»)))
 
 -- A or V, pressure height, GPS height, rest.
 unfoldable pub fixShown : BRecord → List ℕ
 fixShown r =
-    byteShown (fixLetter (r .«fix_valid»))
+    byteShown (validLetter (r .«fix_valid»))
     ++ (pressureShown (r .«pressure_alt») ++ (gpsShown (r .«gps_alt») ++ partShown (r .rest)))
 
 -- Time, latitude and longitude, the fix, and the values of the names asked for.
 unfoldable pub bShown : BRecord → Held → List ℕ → List ℕ → List ℕ
 bShown r h names s =
-    timeShown (r .timestamp) ++ (positionShown (r .pos) ++ (fixShown r ++ texts (valueShown h (r .rest) s) (askedFor h names)))
+    timeShown (r .timestamp)
+    ++ (positionShown (r .pos) ++ (fixShown r ++ texts (valueShown h (r .rest) s) (askedFor h names)))
 
 -- Task, count, name.
 unfoldable pub taskShown : CRecordDeclaration → List ℕ
-taskShown r = number (r .«task_id») ++ ((32 ∷ []) ++ (signed 1 (r .«turnpoint_count») ++ maybeShown (r .«task_name»)))
+taskShown r = numberShown (r .«task_id»)
+    ++ ((code " " ∷ []) ++ (signed 1 (r .«turnpoint_count») ++ maybeShown (r .«task_name»)))
 
 -- Date, time, flight date, and these.
 unfoldable pub declarationShown : CRecordDeclaration → List ℕ
@@ -51,24 +51,26 @@ turnpointShown r = positionShown (r .position) ++ maybeShown (r .«turnpoint_nam
 
 -- The source byte, mnemonic, name, data.
 unfoldable pub hShown : HRecord → List ℕ
-hShown r = byteShown (sourceByte (r .«data_source»)) ++ (partShown (r .mnemonic) ++ (maybeShown (r .«friendly_name») ++ partShown (r .«data»)))
+hShown r = byteShown (sourceByte (r .«data_source»))
+    ++ (partShown (r .mnemonic) ++ (maybeShown (r .«friendly_name») ++ partShown (r .«data»)))
 
 -- START-ENDNAME.
 unfoldable pub definitionShown : Extension → List ℕ
-definitionShown e = number (e .«start_byte») ++ ((45 ∷ []) ++ (padded 1 (e .«end_byte») ++ mnemonicText (e .mnemonic)))
+definitionShown e = numberShown (e .«start_byte»)
+    ++ ((code "-" ∷ []) ++ (padded 1 (e .«end_byte») ++ mnemonicText (e .mnemonic)))
 
 -- Count, then each definition.
 unfoldable pub tableShown : Table → List ℕ
-tableShown t = number (t .count) ++ texts definitionShown (defsOf t)
+tableShown t = numberShown (t .count) ++ texts definitionShown (defsOf t)
 
 -- The fields of a record of the line s; t is that line's own table, h what is in force at it.
 unfoldable pub recordShown : Record → Table → Held → List ℕ → List ℕ → List ℕ
-recordShown (rec.A r) t h names s = aShown r
-recordShown (rec.B r) t h names s = bShown r h names s
-recordShown (rec.CDeclaration r) t h names s = declarationShown r
-recordShown (rec.CTurnpoint r) t h names s = turnpointShown r
-recordShown (rec.H r) t h names s = hShown r
-recordShown rec.I t h names s = tableShown t
-recordShown rec.J t h names s = tableShown t
-recordShown (rec.NotTaken p) t h names s = []
-recordShown (rec.Unrecognised p) t h names s = []
+recordShown (Record.A r) t h names s = aShown r
+recordShown (Record.B r) t h names s = bShown r h names s
+recordShown (Record.CDeclaration r) t h names s = declarationShown r
+recordShown (Record.CTurnpoint r) t h names s = turnpointShown r
+recordShown (Record.H r) t h names s = hShown r
+recordShown Record.I t h names s = tableShown t
+recordShown Record.J t h names s = tableShown t
+recordShown (Record.NotTaken p) t h names s = []
+recordShown (Record.Unrecognised p) t h names s = []

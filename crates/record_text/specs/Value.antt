@@ -1,9 +1,5 @@
 -- Values of extensions on a B line, looked up by name.
-use Prim.Native.Nat.{ℕ}
-use mathlib.Core.List.{List, [], _∷_, _++_}
-use lib.ListN.{length}
-use Rattle.text.specs.Res.{Res, ok, no, pick, numberOf, _≤?_}
-use Rattle.text.specs.Number.{padded}
+use Rattle.text.specs.Prelude.{ℕ, code, List, [], _∷_, _++_, length, Res, ok, no, pick, numberOf, _≤?_, padded}
 use Rattle.part.specs.declared.Part.{Part}
 use Rattle.field.specs.Field.{mnemonicText}
 use Rattle.field.specs.declared.Mnemonic.{Mnemonic}
@@ -11,16 +7,17 @@ use Rattle.table.specs.Table.{defsOf}
 use Rattle.extension.specs.declared.Extension.{Extension}
 use Rattle.held.specs.Held.{isSet, lookUp}
 use Rattle.held.specs.declared.Held.{Held}
-use Rattle.record_text.specs.Piece.{partText}
+use Rattle.record_text.specs.Piece.{placeText}
 
 -- The answer 0 with `@` and the value's place behind it, or the refusal's number.
 unfoldable pub foundText : Res Part → List ℕ
-foundText (ok p) = (48 ∷ []) ++ ((64 ∷ []) ++ partText p)
+foundText (ok p) = (code "0" ∷ []) ++ ((code "@" ∷ []) ++ placeText p)
 foundText (no n) = padded 1 (numberOf n)
 
 -- NAME=ANSWER, by lookup by name on a line with 35 fixed columns and this rest.
 unfoldable pub valueShown : Held → Part → List ℕ → Mnemonic → List ℕ
-valueShown h rest s name = (32 ∷ []) ++ (mnemonicText name ++ ((61 ∷ []) ++ foundText (lookUp 35 rest h name s)))
+valueShown h rest s name =
+    (code " " ∷ []) ++ (mnemonicText name ++ ((code "=" ∷ []) ++ foundText (lookUp 35 rest h name s)))
 
 -- The names of definitions, in their order.
 unfoldable pub namesOf : List Extension → List Mnemonic

@@ -20,35 +20,35 @@ use put::put_byte;
 use table::Table;
 
 // 0 with the value's place behind `@`, or the refusal's number.
-fn put_found(found: Found, buf: &mut [u8], at: usize) -> usize
+fn put_found(buf: &mut [u8], at: usize, found: Found) -> usize
     ensures { λ r. ⌜ Wrote (now (buf .entry)) at (foundText (foundRes found)) (now (buf .exit)) r ⌝ }
 {
     match found {
         Found::At(value) => {
-            let mark = put_byte(buf, at, b'0');
-            let place = put_byte(buf, mark, b'@');
-            put_place(value, buf, place)
+            let at_mark = put_byte(buf, at, b'0');
+            let at_place = put_byte(buf, at_mark, b'@');
+            put_place(buf, at_place, value)
         }
         Found::Refused(no) => put_nat(buf, at, no.number() as u64, 1),
     }
 }
 
 // NAME=ANSWER on a B line with this rest.
-pub fn put_value(
+pub fn show_value(
+    buf: &mut [u8],
+    at: usize,
     held: Held,
     rest: Part,
     name: Mnemonic,
     line: &[u8],
-    buf: &mut [u8],
-    at: usize,
 ) -> usize
     ensures { λ r. ⌜ Wrote (now (buf .entry)) at (valueShown held rest (now (line .entry)) name) (now (buf .exit)) r ⌝ }
 {
     let found = held.find(BRecord::BASE_LENGTH, rest, name, line);
-    let first = put_byte(buf, at, b' ');
-    let sign = name.put(buf, first);
-    let answer = put_byte(buf, sign, b'=');
-    put_found(found, buf, answer)
+    let at_first = put_byte(buf, at, b' ');
+    let at_sign = name.put(buf, at_first);
+    let at_answer = put_byte(buf, at_sign, b'=');
+    put_found(buf, at_answer, found)
 }
 
 // How many of the 99 slots count.
@@ -86,7 +86,8 @@ fn asked_count(held: Held, names: &[u8]) -> usize
 // The i-th of them.
 fn asked_at(held: Held, names: &[u8], i: usize) -> Mnemonic
     requires { ⌜ i < length (askedFor held (now names)) ⌝ }
-    ensures { λ r. ⌜ drop i (askedFor held (now (names .entry))) ≡ r ∷ drop (suc i) (askedFor held (now (names .entry))) ⌝ }
+    ensures { λ r. ⌜ drop i (askedFor held (now (names .entry))) ≡ r ∷ drop (suc i) (askedFor held (now (names .entry)))
+        ⌝ }
 {
     if names.len() < 3 {
         let table = held.table;
@@ -98,22 +99,24 @@ fn asked_at(held: Held, names: &[u8], i: usize) -> Mnemonic
 }
 
 // The values of a B line, in the order of the names.
-pub fn put_values(
+pub fn show_values(
+    buf: &mut [u8],
+    at: usize,
     held: Held,
     rest: Part,
     names: &[u8],
     line: &[u8],
-    buf: &mut [u8],
-    at: usize,
 ) -> usize
-    ensures { λ r. ⌜ Wrote (now (buf .entry)) at (texts (valueShown held rest (now (line .entry))) (askedFor held (now (names .entry)))) (now (buf .exit)) r ⌝ }
+    ensures { λ r. ⌜ Wrote (now (buf .entry))
+        at (texts (valueShown held rest (now (line .entry))) (askedFor held (now (names .entry))))
+        (now (buf .exit)) r ⌝ }
 {
     let n = asked_count(held, names);
     let mut end = at;
     let mut i = 0;
     while i < n {
         let name = asked_at(held, names, i);
-        end = put_value(held, rest, name, line, buf, end);
+        end = show_value(buf, end, held, rest, name, line);
         i += 1;
     }
     end

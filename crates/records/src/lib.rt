@@ -5,7 +5,7 @@ ghost use Rattle.put.specs.Put.{Wrote};
 ghost use Rattle.print.specs.Print.{Prints};
 ghost use Rattle.table.specs.Table.{readTable};
 ghost use Rattle.b_record.specs.BRecord.{readB};
-ghost use Rattle.records.specs.Record.{kindOf, readC, readLine, recordText, recordPiece, recordTable, recordBook};
+ghost use Rattle.records.specs.Record.{whole, readC, readLine, recordText, recordPiece, recordTable, recordBook};
 ghost use Rattle.records.specs.Record.{recordFix, acceptedAs, answerOf, answerFix, readingRes};
 use a_record::ARead;
 use a_record::ARecord;
@@ -52,34 +52,12 @@ pub enum MaybeFix {
     Fix(BRecord),
 }
 
-enum Kind {
-    A,
-    B,
-    C,
-    H,
-    I,
-    J,
-    NotTaken,
-    Other,
-}
-
-fn kind_of(letter: u8) -> Kind
-    ensures { λ r. ⌜ r ≡ kindOf letter ⌝ }
+fn whole_line(line: &[u8]) -> Part
+    ensures { λ r. ⌜ r ≡ whole (now (line .entry)) ⌝ }
 {
-    match letter {
-        b'A' => Kind::A,
-        b'B' => Kind::B,
-        b'C' => Kind::C,
-        b'H' => Kind::H,
-        b'I' => Kind::I,
-        b'J' => Kind::J,
-        b'D' => Kind::NotTaken,
-        b'E' => Kind::NotTaken,
-        b'F' => Kind::NotTaken,
-        b'G' => Kind::NotTaken,
-        b'K' => Kind::NotTaken,
-        b'L' => Kind::NotTaken,
-        _ => Kind::Other,
+    Part {
+        start: 0,
+        len: line.len(),
     }
 }
 
@@ -126,33 +104,33 @@ fn parse_table(line: &[u8], as_read: Record) -> Reading
 }
 
 impl Record {
+    // Reads a line by its first byte.
     pub fn parse_line(line: &[u8]) -> Reading
         ensures { λ r. ⌜ readingRes r ≡ readLine (now (line .entry)) ⌝ }
     {
         if line.len() == 0 {
             return Reading::Refused(Refusal::Syntax);
         }
-        match kind_of(line[0]) {
-            Kind::A => match ARecord::parse(line) {
+        match line[0] {
+            b'A' => match ARecord::parse(line) {
                 ARead::Ok(a) => Reading::Accepted(Record::A(a)),
                 ARead::Refused(no_a) => Reading::Refused(no_a),
             },
-            Kind::B => parse_b(line),
-            Kind::C => parse_c(line),
-            Kind::H => match HRecord::parse(line) {
+            b'B' => parse_b(line),
+            b'C' => parse_c(line),
+            b'H' => match HRecord::parse(line) {
                 HRead::Ok(h) => Reading::Accepted(Record::H(h)),
                 HRead::Refused(no_h) => Reading::Refused(no_h),
             },
-            Kind::I => parse_table(line, Record::I),
-            Kind::J => parse_table(line, Record::J),
-            Kind::NotTaken => Reading::Accepted(Record::NotTaken(Part {
-                start: 0,
-                len: line.len(),
-            })),
-            Kind::Other => Reading::Accepted(Record::Unrecognised(Part {
-                start: 0,
-                len: line.len(),
-            })),
+            b'I' => parse_table(line, Record::I),
+            b'J' => parse_table(line, Record::J),
+            b'D' => Reading::Accepted(Record::NotTaken(whole_line(line))),
+            b'E' => Reading::Accepted(Record::NotTaken(whole_line(line))),
+            b'F' => Reading::Accepted(Record::NotTaken(whole_line(line))),
+            b'G' => Reading::Accepted(Record::NotTaken(whole_line(line))),
+            b'K' => Reading::Accepted(Record::NotTaken(whole_line(line))),
+            b'L' => Reading::Accepted(Record::NotTaken(whole_line(line))),
+            _ => Reading::Accepted(Record::Unrecognised(whole_line(line))),
         }
     }
 
@@ -175,22 +153,24 @@ impl Record {
 
     // Its text as a piece of a larger one, from a place on: bytes that are too short cut it, and a part outside the
     // line is left out. `print` is the printer.
-    pub fn put_piece(self, table: Table, line: &[u8], buf: &mut [u8], at: usize) -> usize
-        ensures { λ r. ⌜ Wrote (now (buf .entry)) at (recordPiece self table (now (line .entry))) (now (buf .exit)) r ⌝ }
+    pub fn put_piece(self, buf: &mut [u8], at: usize, table: Table, line: &[u8]) -> usize
+        ensures { λ r. ⌜ Wrote (now (buf .entry)) at (recordPiece self table (now (line .entry)))
+            (now (buf .exit)) r ⌝ }
     {
         match self {
-            Record::A(a) => a.put_piece(line, buf, at),
-            Record::B(b) => b.put_piece(line, buf, at),
-            Record::CDeclaration(task) => task.put_piece(line, buf, at),
-            Record::CTurnpoint(point) => point.put_piece(line, buf, at),
-            Record::H(h) => h.put_piece(line, buf, at),
-            Record::I => table.put_piece(b'I', buf, at),
-            Record::J => table.put_piece(b'J', buf, at),
+            Record::A(a) => a.put_piece(buf, at, line),
+            Record::B(b) => b.put_piece(buf, at, line),
+            Record::CDeclaration(task) => task.put_piece(buf, at, line),
+            Record::CTurnpoint(point) => point.put_piece(buf, at, line),
+            Record::H(h) => h.put_piece(buf, at, line),
+            Record::I => table.put_piece(buf, at, b'I'),
+            Record::J => table.put_piece(buf, at, b'J'),
             Record::NotTaken(part) => put_part(buf, at, line, part),
             Record::Unrecognised(other) => put_part(buf, at, line, other),
         }
     }
 
+    // Its times, dates and positions are by the book; other kinds say yes.
     pub fn by_the_book(self) -> bool
         ensures { λ r. ⌜ r ≡ recordBook self ⌝ }
     {
@@ -224,6 +204,7 @@ impl Record {
         }
     }
 
+    // The fix of a B line.
     pub fn fix(self) -> MaybeFix
         ensures { λ r. ⌜ r ≡ recordFix self ⌝ }
     {

@@ -1,12 +1,7 @@
 -- The lines of a window, some of them at a time.
-use Prim.Native.Nat.{ℕ, _+_, _-_, _≤_, _<_}
-use mathlib.Core.Path.{_≡_, refl, sym, ap, _∙_}
-use mathlib.Core.Bool.{Bool, true, false, not}
-use mathlib.Core.List.{List, [], _++_}
-use native.Mathlib.Omega.{arith}
-use lib.ListN.{length, take, drop, length-drop}
-use lib.Seq.{sets, take-add, take-all}
-use Rattle.text.proofs.Steps.{never}
+use Rattle.text.specs.Prelude.{ℕ, _+_, _-_, _≤_, _<_, _≡_, Bool, true, false, not, List, [], _++_, length, take, drop}
+use Rattle.text.proofs.Prelude.{arith, refl, sym, ap, _∙_, length-drop, sets, take-all, never}
+use lib.Seq.{take-add}
 use Rattle.log.proofs.Chunks.{closed-none, closed-append}
 use Rattle.log.specs.Fold.{fed}
 use Rattle.log.proofs.Pieces.{fed-none, fed-append}
@@ -16,17 +11,12 @@ use Rattle.window.proofs.Wholes.{whole-closed}
 use Rattle.walk.specs.Readings.{reader}
 use Rattle.listing_text.specs.Trailer.{countStep}
 use Rattle.products.specs.Feed.{view, Feeds}
-use Rattle.products.specs.declared.Product.{Product}
-use Rattle.products.specs.declared.Carried.{Carried}
-use Rattle.products.specs.declared.Fed.{Fed}
+use Rattle.products.specs.declared.{Product.Product, Carried.Carried, Fed.Fed}
 use Rattle.products.proofs.Feeding.{called}
 use Rattle.files.specs.Outcome.{hasFailed}
-use Rattle.files.specs.declared.input.Filled.{Filled}
-use Rattle.files.specs.declared.input.Filled.the-variants as filled
-use Rattle.files.specs.declared.outcome.Outcome.{Outcome}
+use Rattle.files.specs.declared.{input.Filled.Filled, outcome.Outcome.Outcome}
 use Rattle.stream.specs.Stream.{Streamed, Goes, Drains, Finished, Turned}
-use Rattle.stream.specs.declared.Went.{Went}
-use Rattle.stream.specs.declared.Turn.{Turn}
+use Rattle.stream.specs.declared.{Went.Went, Turn.Turn}
 
 -- Up to a place of the lines, c made this.
 abbrev pub Streaming : Carried → List ℕ → ℕ → Carried → Type 0
@@ -124,6 +114,6 @@ drained {c} {win} {w} {n} e f h k l =
 -- a turn, however far the window was filled
 pub goes-turned : (f : Filled) (c : Carried) (win win′ : List ℕ) (r : Turn) → Turned f c win win′ r →
     Goes c (r .carried) (r .more)
-goes-turned (filled.Ended n) c win win′ r t = t .0
-goes-turned filled.Full c win win′ r t = t .0
-goes-turned filled.Failed c win win′ r t = rw t goes-nowhere
+goes-turned (Filled.Ended n) c win win′ r t = t .0
+goes-turned Filled.Full c win win′ r t = t .0
+goes-turned Filled.Failed c win win′ r t = rw t goes-nowhere

@@ -1,9 +1,5 @@
 -- What was written of a log that goes through a window, and what is carried on.
-use Prim.Native.Nat.{ℕ, _-_, _≤_, _<_}
-use mathlib.Core.Path.{_≡_}
-use mathlib.Core.Bool.{Bool, true, false}
-use mathlib.Core.List.{List}
-use lib.ListN.{length, take, drop}
+use Rattle.text.specs.Prelude.{ℕ, _-_, _≤_, _<_, _≡_, Bool, true, false, List, length, take, drop}
 use lib.Seq.{sets}
 use Rattle.log.specs.Log.{closed}
 use Rattle.log.specs.Fold.{fed}
@@ -13,11 +9,8 @@ use Rattle.listing_text.specs.Trailer.{countStep}
 use Rattle.products.specs.Feed.{view}
 use Rattle.products.specs.declared.Carried.{Carried}
 use Rattle.files.specs.Outcome.{hasFailed}
-use Rattle.files.specs.declared.input.Filled.{Filled}
-use Rattle.files.specs.declared.input.Filled.the-variants as filled
-use Rattle.files.specs.declared.outcome.Outcome.the-variants.{NotRead}
-use Rattle.stream.specs.declared.Went.{Went}
-use Rattle.stream.specs.declared.Turn.{Turn}
+use Rattle.files.specs.declared.{input.Filled.Filled, outcome.Outcome.the-variants.NotRead}
+use Rattle.stream.specs.declared.{Went.Went, Turn.Turn}
 
 -- Whole lines were written, all of them if nothing went wrong, and what is carried on is what they make of c.
 pub record Streamed (c : Carried) (lines : List ℕ) (r : Went) : Type 0 where
@@ -38,6 +31,7 @@ pub record Drained (c : Carried) (w w′ : List ℕ) (r : Turn) : Type 0 where
   pub fill : r .fill ≡ length w - pieceEnd false w
   pub rest : w′ ≡ sets w 0 (drop (pieceEnd false w) w)
 
+-- What draining a full window comes to.
 abbrev pub Drains : Carried → List ℕ → List ℕ → Turn → Type 0
 Drains c w w′ r = Goes c (r .carried) (r .more) × (r .more ≡ true → Drained c w w′ r)
 
@@ -49,6 +43,6 @@ pub record Finished (c : Carried) (lines : List ℕ) (r : Turn) : Type 0 where
 -- A turn, by how far the window w was filled: after the last read all of it is written, a full one is drained, and one
 -- that was not read goes nowhere.
 abbrev pub Turned : Filled → Carried → List ℕ → List ℕ → Turn → Type 0
-Turned (filled.Ended n) c w w′ r = Goes c (r .carried) (r .more) × Finished c (take n w) r
-Turned filled.Full c w w′ r = Drains c w w′ r
-Turned filled.Failed c w w′ r = r ≡ record { carried = c; fill = 0; more = false; outcome = NotRead }
+Turned (Filled.Ended n) c w w′ r = Goes c (r .carried) (r .more) × Finished c (take n w) r
+Turned Filled.Full c w w′ r = Drains c w w′ r
+Turned Filled.Failed c w w′ r = r ≡ record { carried = c; fill = 0; more = false; outcome = NotRead }

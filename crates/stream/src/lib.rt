@@ -2,7 +2,7 @@
 // the rest waits for the next read.
 ghost use mathlib.Core.Path.{_≡_};
 ghost use mathlib.Core.Bool.{false};
-ghost use Rattle.products.specs.Feed.{fresh};
+ghost use Rattle.products.specs.Feed.{atFirst};
 ghost use Rattle.stream.specs.Stream.{Streamed, Goes, Drains, Finished, Turned};
 ghost use Rattle.files.specs.Input.{Within};
 use files::input::Filled;
@@ -83,7 +83,7 @@ fn write_lines(
 
 // What closes the text.
 fn write_closing(product: Product, c: Carried, to: i32, out: &mut [u8]) -> Outcome {
-    let end = put_closing(product, c, out, 0);
+    let end = put_closing(out, 0, product, c);
     if out.len() < end {
         return Outcome::NoRoom(c.walk.at.number);
     }
@@ -174,7 +174,7 @@ pub fn run(
     to: i32,
     out: &mut [u8],
 ) -> Ended
-    ensures { λ r. ⌜ Goes fresh (r .carried) false ⌝ }
+    ensures { λ r. ⌜ Goes atFirst (r .carried) false ⌝ }
 {
     let mut carried = new();
     let mut fill = 0;

@@ -1,11 +1,6 @@
 -- A count of two characters is at most 99.
-use Prim.Native.Nat.{ℕ, _^_, _≤_, _<_}
-use mathlib.Core.Path.{_≡_, sym}
-use mathlib.Core.List.{List}
-use native.Mathlib.Omega.{arith}
-use lib.ListN.{length, drop, length-drop}
-use Rattle.text.specs.Res.{ok}
-use Rattle.text.specs.Number.{readDigits, readNat}
+use Rattle.text.specs.Prelude.{ℕ, _^_, _≤_, _<_, _≡_, List, length, drop, ok, readNat, readDigits}
+use Rattle.text.proofs.Prelude.{arith, sym, length-drop}
 use Rattle.text.proofs.Finds.{Finds, finds-ok, finds-guard, finds-pick}
 use Rattle.text.proofs.Decimal.{value-below}
 
@@ -17,7 +12,8 @@ digits-below most w s l =
 
 nat-below : (most w : ℕ) (s : List ℕ) → length s ≤ w → Finds (readNat most s) (λ v. v < 10 ^ w)
 unfolding readNat
-nat-below most w s l = finds-pick (λ _. digits-below most w (drop 1 s) (omega (arith, length-drop 1 s))) (λ _. digits-below most w s l)
+nat-below most w s l = finds-pick (λ _. digits-below most w (drop 1 s) (omega (arith, length-drop 1 s)))
+    (λ _. digits-below most w s l)
 
 pub two-characters : (most : ℕ) (s : List ℕ) {v : ℕ} → length s ≤ 2 → ok v ≡ readNat most s → v ≤ 99
 two-characters most s {v} l h = omega (arith, nat-below most 2 s l .found v (sym h))

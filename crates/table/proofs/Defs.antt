@@ -1,50 +1,45 @@
 -- Definitions in turn: the loops that read them and put them.
-use Prim.Native.Nat.{ℕ, suc, _+_, _-_, _*_, _≤_, _<_, min}
-use mathlib.Core.Path.{_≡_, refl, sym, ap, _∙_}
-use mathlib.Core.Bool.{Bool, true, false}
-use mathlib.Core.List.{List, [], _∷_, _++_, append-assoc, append-nil, map}
-use native.Mathlib.Omega.{arith}
+use Rattle.text.specs.Prelude.{ℕ, suc, _+_, _-_, _*_, _≤_, _<_, min, _≡_, Bool, true, false, List, [], _∷_, _++_, map}
+use Rattle.text.specs.Prelude.{length, take, drop, getD, set, replicate, Res, ok, no, bind, cut, columns}
+use Rattle.text.proofs.Prelude.{arith, refl, sym, ap, _∙_, append-nil, append-assoc, length-append, take-all, drop-drop}
+use Rattle.text.proofs.Prelude.{off}
 use native.Mathlib.Nat.{add-sub-cancel-left}
 use native.Mathlib.Numerals.{add-one}
 use lib.Dec.{leb}
-use lib.ListN.{length, take, drop, getD, set, replicate, length-append, length-map}
-use lib.Seq.{drop-drop, set-at, take-suc, take-all}
+use lib.ListN.{length-map}
+use lib.Seq.{set-at, take-suc}
 use borrow.Author.Tests.{leb-true, leb-false}
-use Rattle.text.specs.Res.{Res, ok, no, bind}
 use Rattle.text.specs.declared.refusal.Refusal.{Refusal}
-use Rattle.text.proofs.Steps.{off}
 use Rattle.text.proofs.Lines.{cut-rest}
-use Rattle.text.specs.Line.{cut, columns}
 use Rattle.put.specs.Put.{Wrote}
 use Rattle.put.proofs.Writing.{then}
 use Rattle.extension.specs.Extension.{readExtension, extensionText}
 use Rattle.table.specs.Table.{empty, tableOf, readDefs, defsText, tableRead}
 use Rattle.extension.specs.declared.Extension.{Extension}
-use Rattle.table.specs.declared.Verdict.the-variants.{Accepted}
-use Rattle.table.specs.declared.TableRead.{TableRead}
+use Rattle.table.specs.declared.{Verdict.the-variants.Accepted, TableRead.TableRead}
 
 -- ---- reading
 
 -- definitions after those of p
-unfoldable pub behind : List Extension → Res (List Extension) → Res (List Extension)
-behind p m = bind m (λ es. ok (p ++ es))
+unfoldable pub defsBehind : List Extension → Res (List Extension) → Res (List Extension)
+defsBehind p m = bind m (λ es. ok (p ++ es))
 
-behind-none : (m : Res (List Extension)) → behind [] m ≡ m
-unfolding behind bind
+behind-none : (m : Res (List Extension)) → defsBehind [] m ≡ m
+unfolding defsBehind bind
 behind-none (ok es) = refl
 behind-none (no n) = refl
 
 behind-one : (p : List Extension) (e : Extension) (m : Res (List Extension)) →
-    behind p (bind m (λ es. ok (e ∷ es))) ≡ behind (p ++ (e ∷ [])) m
-unfolding behind bind
+    defsBehind p (bind m (λ es. ok (e ∷ es))) ≡ defsBehind (p ++ (e ∷ [])) m
+unfolding defsBehind bind
 behind-one p e (ok es) = ap ok (sym (append-assoc p (e ∷ []) es))
 behind-one p e (no n) = refl
 
 -- the first of k + 1 definitions, and the others
-unroll : (k : ℕ) (s : List ℕ) →
+readDefs-suc : (k : ℕ) (s : List ℕ) →
     readDefs (suc k) s ≡ bind (readExtension (take 7 s)) (λ e. bind (readDefs k (drop 7 s)) (λ es. ok (e ∷ es)))
 unfolding readDefs columns cut
-unroll k s = rw (cut-rest s 7)
+readDefs-suc k s = rw (cut-rest s 7)
 
 -- i definitions of the body were read, those of p
 pub record Turn (body : List ℕ) (n i : ℕ) (defs : List Extension) : Type 0 where
@@ -52,30 +47,40 @@ pub record Turn (body : List ℕ) (n i : ℕ) (defs : List Extension) : Type 0 w
   pub count : length p ≡ i
   pub inside : i ≤ n
   pub held : defs ≡ p ++ replicate (99 - i) empty
-  pub left : behind p (readDefs (n - i) (drop (i * 7) body)) ≡ readDefs n body
+  pub left : defsBehind p (readDefs (n - i) (drop (i * 7) body)) ≡ readDefs n body
 
-pub start : (body : List ℕ) (n : ℕ) → Turn body n 0 (replicate 99 empty)
-start body n = record { p = []; count = refl; inside = omega arith; held = refl; left = behind-none _ ∙ ap (λ (k : ℕ). readDefs k body) (omega arith) }
+pub turn-start : (body : List ℕ) (n : ℕ) → Turn body n 0 (replicate 99 empty)
+turn-start body n =
+    record {
+      p = [];
+      count = refl;
+      inside = omega arith;
+      held = refl;
+      left = behind-none _ ∙ ap (λ (k : ℕ). readDefs k body) (omega arith);
+    }
 
 module _ (body : List ℕ) (n i : ℕ) (defs : List Extension) (t : Turn body n i defs) (more : i < n) where
-  rest : behind (t .p) (bind (readExtension (take 7 (drop (i * 7) body))) (λ e. bind (readDefs (n - (i + 1)) (drop ((i + 1) * 7) body)) (λ es. ok (e ∷ es)))) ≡ readDefs n body
+  rest : defsBehind (t .p)
+      (bind (readExtension (take 7 (drop (i * 7) body)))
+      (λ e. bind (readDefs (n - (i + 1)) (drop ((i + 1) * 7) body)) (λ es. ok (e ∷ es)))) ≡ readDefs n body
   rest =
       let k : n - i ≡ suc (n - (i + 1)) = omega arith in
       let d : (i + 1) * 7 ≡ i * 7 + 7 = omega arith in
-      rw (d, ← drop-drop) (ap (behind (t .p)) (sym (unroll (n - (i + 1)) (drop (i * 7) body))) ∙ (rw k at (t .left)))
+      rw (d, ← drop-drop) (ap (defsBehind (t .p)) (sym (readDefs-suc (n - (i + 1)) (drop (i * 7) body)))
+      ∙ (rw k at (t .left)))
 
   part : take (i * 7 + 7 - i * 7) (drop (i * 7) body) ≡ take 7 (drop (i * 7) body)
   part = ap (λ (k : ℕ). take k (drop (i * 7) body)) (add-sub-cancel-left (i * 7) 7)
 
-  pub refuses : {r : Refusal} → no r ≡ readExtension (take (i * 7 + 7 - i * 7) (drop (i * 7) body)) →
+  pub turn-refuses : {r : Refusal} → no r ≡ readExtension (take (i * 7 + 7 - i * 7) (drop (i * 7) body)) →
       no r ≡ readDefs n body
-  unfolding behind
-  refuses h = off _ (off _ (h ∙ ap readExtension part)) ∙ rest
+  unfolding defsBehind
+  turn-refuses h = off _ (off _ (h ∙ ap readExtension part)) ∙ rest
 
-  pub next : n ≤ 99 → {e : Extension} → ok e ≡ readExtension (take (i * 7 + 7 - i * 7) (drop (i * 7) body)) →
+  pub turn-next : n ≤ 99 → {e : Extension} → ok e ≡ readExtension (take (i * 7 + 7 - i * 7) (drop (i * 7) body)) →
       Turn body n (i + 1) (set defs i e)
   unfolding bind
-  next fits {e} h =
+  turn-next fits {e} h =
       let k : 99 - i ≡ suc (99 - (i + 1)) = omega arith in
       record {
         p = t .p ++ (e ∷ []);
@@ -85,16 +90,19 @@ module _ (body : List ℕ) (n i : ℕ) (defs : List Extension) (t : Turn body n 
             ap (λ l. set l i e) (t .held ∙ ap (λ (m : ℕ). t .p ++ replicate m empty) k)
             ∙ set-at (t .p) empty (replicate (99 - (i + 1)) empty) e i (t .count)
             ∙ sym (append-assoc (t .p) (e ∷ []) (replicate (99 - (i + 1)) empty));
-        left = sym (behind-one (t .p) e (readDefs (n - (i + 1)) (drop ((i + 1) * 7) body))) ∙ ap (λ m. behind (t .p) (bind m (λ e. bind (readDefs (n - (i + 1)) (drop ((i + 1) * 7) body)) (λ es. ok (e ∷ es))))) (h ∙ ap readExtension part) ∙ rest;
+        left = sym (behind-one (t .p) e (readDefs (n - (i + 1)) (drop ((i + 1) * 7) body)))
+            ∙ ap (λ m. defsBehind (t .p)
+            (bind m (λ e. bind (readDefs (n - (i + 1)) (drop ((i + 1) * 7) body)) (λ es. ok (e ∷ es)))))
+            (h ∙ ap readExtension part) ∙ rest;
       }
 
 held-as : ℕ → List Extension → TableRead
 held-as n defs = record { table = record { defs = defs; count = n }; verdict = Accepted }
 
-pub done : (body : List ℕ) (n i : ℕ) (defs : List Extension) → Turn body n i defs → n ≤ i →
+pub turn-done : (body : List ℕ) (n i : ℕ) (defs : List Extension) → Turn body n i defs → n ≤ i →
     record { table = record { defs = defs; count = n }; verdict = Accepted } ≡ tableRead (readDefs n body)
-unfolding tableRead tableOf readDefs behind bind held-as
-done body n i defs t end =
+unfolding tableRead tableOf readDefs defsBehind bind held-as
+turn-done body n i defs t end =
     let z : n - i ≡ 0 = omega (arith, t .inside) in
     let m : n ≡ length (t .p) = omega (arith, t .inside, t .count) in
     let r : 99 - i ≡ 99 - length (t .p) = omega (arith, t .count) in
@@ -111,7 +119,8 @@ defs-append (d ∷ a) b = rw (defs-append a b, append-assoc)
 
 -- the first i definitions, and then the next
 pub defs-then : {b b′ b″ : List ℕ} {at j k : ℕ} (l : List Extension) (i : ℕ) (d : Extension) → i < length l
-    → Wrote b at (defsText (take i l)) b′ j → Wrote b′ j (extensionText (getD l i d)) b″ k → Wrote b at (defsText (take (i + 1) l)) b″ k
+    → Wrote b at (defsText (take i l)) b′ j → Wrote b′ j (extensionText (getD l i d)) b″ k
+    → Wrote b at (defsText (take (i + 1) l)) b″ k
 unfolding defsText
 defs-then l i d h p q = rw (add-one, take-suc l i d h, defs-append, append-nil) (then p q)
 

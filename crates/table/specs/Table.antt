@@ -1,17 +1,12 @@
 -- The body of I and J lines: a table of up to 99 definitions.
-use Prim.Native.Nat.{ℕ, zero, suc, _+_, _-_, _*_}
-use mathlib.Core.List.{List, [], _∷_, _++_}
-use lib.ListN.{length, take, replicate}
-use Rattle.text.specs.Res.{Res, ok, no, bind, guard, _≤?_, _=?_}
-use Rattle.text.specs.Number.{readNat, padded}
+use Rattle.text.specs.Prelude.{ℕ, zero, suc, _+_, _-_, _*_, code, Bool, List, [], _∷_, _++_, length, take, replicate}
+use Rattle.text.specs.Prelude.{Res, ok, no, bind, guard, _≤?_, _=?_, _∨?_, byte, columns, readNat, padded}
 use Rattle.text.specs.declared.refusal.Refusal.the-variants.{Syntax, BadExtension}
-use Rattle.text.specs.Line.{columns}
 use Rattle.field.specs.Field.{ascii}
 use Rattle.extension.specs.Extension.{readExtension, extensionText}
 use Rattle.extension.specs.declared.Extension.{Extension}
-use Rattle.table.specs.declared.Table.{Table}
+use Rattle.table.specs.declared.{Table.Table, TableRead.TableRead}
 use Rattle.table.specs.declared.Verdict.the-variants.{Accepted, Refused}
-use Rattle.table.specs.declared.TableRead.{TableRead}
 
 -- The slot that holds no definition.
 abbrev pub empty : Extension
@@ -36,14 +31,19 @@ readBody s =
     guard (length s =? 3 + 7 * count) Syntax
     (columns 3 (length s) (readDefs count) s))
 
--- Under 3 bytes 1; ASCII (2); then the body.
+-- I or J.
+unfoldable pub isTable : ℕ → Bool
+isTable b = (b =? code "I") ∨? (b =? code "J")
+
+-- Under 3 bytes 1; a first byte other than I and J 1; ASCII (2); then the body.
 unfoldable pub readTable : List ℕ → Res (List Extension)
-readTable s = guard (3 ≤? length s) Syntax (ascii readBody s)
+readTable s = guard (3 ≤? length s) Syntax (guard (isTable (byte 0 s)) Syntax (ascii readBody s))
 
 -- The definitions that a table holds.
 unfoldable pub defsOf : Table → List Extension
 defsOf t = take (t .count) (t .defs)
 
+-- The texts of definitions, one after the other.
 unfoldable pub defsText : List Extension → List ℕ
 defsText [] = []
 defsText (e ∷ es) = extensionText e ++ defsText es

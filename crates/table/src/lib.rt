@@ -7,7 +7,8 @@ ghost use lib.ListN.{length};
 ghost use Rattle.text.specs.Res.{no};
 ghost use Rattle.put.specs.Put.{Wrote};
 ghost use Rattle.print.specs.Print.{Prints};
-ghost use Rattle.table.specs.Table.{tableOf, readDefs, readTable, defsOf, defsText, tableBody, tableText};
+ghost use Rattle.table.specs.Table.{tableOf, readDefs, isTable, readTable, defsOf, defsText, tableBody};
+ghost use Rattle.table.specs.Table.{tableText};
 ghost use Rattle.table.specs.Table.{tableRead};
 use extension::Extension;
 use extension::ExtensionRead;
@@ -41,6 +42,16 @@ fn at_most_99(n: u8) -> usize
     ensures { λ r. ⌜ r ≡ min n 99 ⌝ }
 {
     if n < 99 { n as usize } else { 99 }
+}
+
+// I or J.
+fn is_table(letter: u8) -> bool
+    ensures { λ r. ⌜ r ≡ isTable letter ⌝ }
+{
+    if letter == b'I' {
+        return true;
+    }
+    letter == b'J'
 }
 
 impl Table {
@@ -101,11 +112,14 @@ impl Table {
         }
     }
 
-    // The definitions of an I or a J line: its letter is not looked at.
+    // The definitions of an I or a J line.
     pub fn parse(line: &[u8]) -> TableRead
         ensures { λ r. ⌜ r ≡ tableRead (readTable (now (line .entry))) ⌝ }
     {
         if line.len() < 3 {
+            return Table::refused(Refusal::Syntax);
+        }
+        if !is_table(line[0]) {
             return Table::refused(Refusal::Syntax);
         }
         if !is_ascii(line) {
@@ -138,23 +152,24 @@ impl Table {
     }
 
     // The text as a piece of a larger one, from a place on; bytes that are too short cut it.
-    pub fn put_piece(self, letter: u8, buf: &mut [u8], at: usize) -> usize
+    pub fn put_piece(self, buf: &mut [u8], at: usize, letter: u8) -> usize
         ensures { λ r. ⌜ Wrote (now (buf .entry)) at (tableBody letter self) (now (buf .exit)) r ⌝ }
     {
-        let count = put_byte(buf, at, letter);
-        let first = put_nat(buf, count, self.count as u64, 2);
-        self.put_defs(buf, first)
+        let at_count = put_byte(buf, at, letter);
+        let at_first = put_nat(buf, at_count, self.count as u64, 2);
+        self.put_defs(buf, at_first)
     }
 
+    // Prints an I or a J line.
     pub fn print(self, letter: u8, buf: &mut [u8]) -> Printed
         ensures { λ r. ⌜ Prints (tableText letter self) (now (buf .entry)) (now (buf .exit)) r ⌝ }
     {
         if 99 < self.count {
             return Printed::Refused(Refusal::BadExtension);
         }
-        if buf.len() < self.put_piece(letter, &mut [], 0) {
+        if buf.len() < self.put_piece(&mut [], 0, letter) {
             return Printed::Refused(Refusal::NoRoom);
         }
-        Printed::Written(self.put_piece(letter, buf, 0))
+        Printed::Written(self.put_piece(buf, 0, letter))
     }
 }

@@ -1,18 +1,11 @@
 -- Laws of a step.
-use Prim.Native.Nat.{ℕ, _+_, _≤_, _<_}
-use mathlib.Core.Path.{_≡_, refl, sym, ap, _∙_}
-use mathlib.Core.Bool.{Bool, true, false}
-use mathlib.Core.List.{List}
-use native.Mathlib.Omega.{arith}
-use lib.ListN.{length}
-use Rattle.text.specs.Res.{Res, ok, no, pick, _≤?_, _∧?_}
+use Rattle.text.specs.Prelude.{ℕ, _+_, _≤_, _<_, _≡_, Bool, true, false, List, length, Res, ok, no, pick, _≤?_, _∧?_}
+use Rattle.text.specs.Prelude.{largest}
+use Rattle.text.proofs.Prelude.{arith, refl, sym, ap, _∙_, first, yes≤, is≤, both, and}
 use Rattle.part.specs.Part.{bytesOf, findPart, shown}
-use Rattle.text.proofs.Steps.{first, yes≤, is≤, and, both}
 use Rattle.part.proofs.Parts.{shown-found}
-use Rattle.text.specs.Word.{largest}
 use Rattle.records.specs.Record.{readLine, readingRes}
-use Rattle.records.specs.declared.Record.{Record}
-use Rattle.records.specs.declared.Reading.{Reading}
+use Rattle.records.specs.declared.{Record.Record, Reading.Reading}
 use Rattle.records.specs.declared.Reading.the-variants.{Accepted, Refused}
 use Rattle.log.specs.Line.{cutAt}
 use Rattle.log.specs.declared.Cut.{Cut}
@@ -21,10 +14,7 @@ use Rattle.held.specs.Held.{heldAfter}
 use Rattle.held.specs.declared.Held.{Held}
 use Rattle.walk.specs.Cursor.{past, nextOf}
 use Rattle.walk.specs.Walk.{readingOf, stepTo, stepOf}
-use Rattle.walk.specs.declared.cursor.Cursor.{Cursor}
-use Rattle.walk.specs.declared.cursor.Next.the-variants as next
-use Rattle.walk.specs.declared.Walk.{Walk}
-use Rattle.walk.specs.declared.Step.{Step}
+use Rattle.walk.specs.declared.{cursor.Cursor.Cursor, cursor.Next.Next, Walk.Walk, Step.Step}
 use Rattle.walk.specs.declared.Taken.the-variants.{Line, Done}
 
 -- the answer that is viewed as m
@@ -45,20 +35,20 @@ module _ (s : List ℕ) where
   cut-shown p h = shown-found (sym (cut-inside s p h))
 
   -- a line that comes next is the one that the cut finds at the place, which lies inside the log
-  pub next-is : (c : Cursor) (cut : Cut) (after : Cursor) → next.Line cut after ≡ nextOf s c →
+  pub next-is : (c : Cursor) (cut : Cut) (after : Cursor) → Next.Line cut after ≡ nextOf s c →
       (cut ≡ cutAt (c .place) s) × (c .place ≤ length s)
   unfolding nextOf pick
   next-is c cut after e = by ((c .place + 1 ≤? length s) ∧? (c .number + 1 ≤? largest)) refl e
     where
       by : (t : Bool) → ((c .place + 1 ≤? length s) ∧? (c .number + 1 ≤? largest)) ≡ t
-          → next.Line cut after ≡ pick t (next.Line (cutAt (c .place) s) (past c (cutAt (c .place) s))) next.Done
+          → Next.Line cut after ≡ pick t (Next.Line (cutAt (c .place) s) (past c (cutAt (c .place) s))) Next.Done
           → (cut ≡ cutAt (c .place) s) × (c .place ≤ length s)
       by true h e = (cc, omega (arith, is≤ (both h .0)))
       by false h e = let z : _≡_ {A = ℕ} 0 1 = cc in absurd (omega arith)
 
   -- inside the log and below the largest number a line comes next
   pub next-on : (c : Cursor) → c .place < length s → c .number < largest →
-      nextOf s c ≡ next.Line (cutAt (c .place) s) (past c (cutAt (c .place) s))
+      nextOf s c ≡ Next.Line (cutAt (c .place) s) (past c (cutAt (c .place) s))
   unfolding nextOf
   next-on c h n = sym (first _ (and (yes≤ (omega arith)) (yes≤ (omega arith))) refl)
 
@@ -72,14 +62,14 @@ module _ (s : List ℕ) where
   unfolding stepOf stepTo
   step-on w h n = ap (stepTo s w) (next-on (w .at) h n)
 
-  pub step-done : (w : Walk) → next.Done ≡ nextOf s (w .at) →
+  pub step-done : (w : Walk) → Next.Done ≡ nextOf s (w .at) →
       _≡_ {A = Step} (record { walk = w; taken = Done }) (stepOf s w)
   unfolding stepOf stepTo
   step-done w e = rw (sym e)
 
   -- the line l of the cut, its reading r and what is held after it are the step
   pub step-line : (w : Walk) {cut : Cut} {after : Cursor} {l : List ℕ} {r : Reading} {h : Held} →
-      next.Line cut after ≡ nextOf s (w .at)
+      Next.Line cut after ≡ nextOf s (w .at)
       → l ≡ bytesOf (shown (findPart (cut .line) s)) s → readingRes r ≡ readLine l → h ≡ heldAfter 73 (w .held) l
       → _≡_ {A = Step} (record { walk = record { held = h; at = after }; taken = Line (cut .line) r }) (stepOf s w)
   unfolding stepOf stepTo

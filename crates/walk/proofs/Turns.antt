@@ -1,12 +1,7 @@
 -- The law of a turn, for this reader of lines and every step.
-use Prim.Native.Nat.{ℕ, _+_, _-_, _≤_, _<_}
-use mathlib.Core.Path.{_≡_, refl}
-use mathlib.Core.Bool.{Bool, true, false}
-use mathlib.Core.List.{List, _++_}
+use Rattle.text.specs.Prelude.{ℕ, _+_, _-_, _≤_, _<_, _≡_, Bool, true, false, List, _++_, length, take, pick}
+use Rattle.text.proofs.Prelude.{arith, refl}
 use mathlib.Core.Option.{Option, none, some}
-use native.Mathlib.Omega.{arith}
-use lib.ListN.{length, take}
-use Rattle.text.specs.Res.{pick}
 use Rattle.part.specs.Part.{partBytes, bytesOf}
 use Rattle.records.specs.Record.{readLine, readingRes}
 use Rattle.records.specs.declared.Reading.{Reading}
@@ -31,7 +26,8 @@ got s at {r} e v a = rw (reading-is r a, v, e)
 
 -- what was read there, as line n at the place p with h held after it
 abbrev pub gotRead : Got → List ℕ → ℕ → ℕ → Held → Line-read
-gotRead g s n p h = record { number = n; place = p; line = partBytes (g .line) s; answer = readingRes (g .reading); held = h }
+gotRead g s n p h =
+    record { number = n; place = p; line = partBytes (g .line) s; answer = readingRes (g .reading); held = h }
 
 module _ (at : ℕ) (s : List ℕ) {g : Got} (e : g ≡ gotAt at s) where
   -- its part and the next place are the cut's
@@ -46,7 +42,8 @@ module _ (at : ℕ) (s : List ℕ) {g : Got} (e : g ≡ gotAt at s) where
 
 -- ---- a turn, with all that is carried
 
-module _ {T : Type 0} {step : T → Line-read → T} {c₀ : Carried Held T} {s : List ℕ} {at n p : ℕ} {h : Held} {a : T} {g : Got}
+module _ {T : Type 0} {step : T → Line-read → T} {c₀ : Carried Held T} {s : List ℕ} {at n p : ℕ} {h : Held} {a : T}
+    {g : Got}
     (i : at < length s) (r : Reached reader step c₀ s at (record { number = n; place = p; held = h; made = a }))
     (e : g ≡ gotAt at s) where
   -- what is held after the line
@@ -58,10 +55,12 @@ module _ {T : Type 0} {step : T → Line-read → T} {c₀ : Carried Held T} {s 
       a′ ≡ step a (gotRead g s (n + 1) p after) →
       Reached reader step c₀ s (g .next) (record { number = n + 1; place = p′; held = h′; made = a′ })
   turn q k m =
-      log.line {cut = record { line = g .line; next = g .next }} i r (cut-of at s e) refl q k (rw (answer-of at s e) at m)
+      log.line {cut = record { line = g .line; next = g .next }} i r (cut-of at s e) refl q k
+      (rw (answer-of at s e) at m)
 
   -- the line is the one that is cut there, and the answer is the one to it
-  pub cut-here : let l = bytesOf (cutAt at s .line) s in (partBytes (g .line) s ≡ l) × (readingRes (g .reading) ≡ readLine l)
+  pub cut-here : let l = bytesOf (cutAt at s .line) s in (partBytes (g .line) s ≡ l)
+      × (readingRes (g .reading) ≡ readLine l)
   unfolding gotAt
   cut-here = rw (e, viewed (readLine (partBytes (cutAt at s .line) s)), cut-shown s at (r .inside)) (refl, refl)
 
@@ -71,8 +70,8 @@ module _ {T : Type 0} {step : T → Line-read → T} {c₀ : Carried Held T} {s 
   unfolding gotAt
   text-turn f = let k = cut-here in rw (k .0, k .1) (rw e (log.text-next r i f))
 
-  pub nearer : length s - g .next < length s - at
-  nearer = log.nearer r i (cut-of at s e)
+  pub less-left : length s - g .next < length s - at
+  less-left = log.nearer r i (cut-of at s e)
 
 -- ---- a product of a whole log that looks at no line's number and at no table
 
@@ -81,7 +80,8 @@ module _ {T : Type 0} (step : T → Line-read → T) (a₀ : T) (s : List ℕ) w
   pub record Made (at : ℕ) (a : T) : Type 0 where
     pub number : ℕ
     pub held : Held
-    pub reached : Reached reader step (fresh reader a₀) s at (record { number = number; place = at; held = held; made = a })
+    pub reached : Reached reader step (fresh reader a₀) s
+        at (record { number = number; place = at; held = held; made = a })
 
 module _ {T : Type 0} {step : T → Line-read → T} where
   -- before the first line
@@ -103,7 +103,7 @@ module _ {T : Type 0} {step : T → Line-read → T} where
       line k = record { number = _; held = _; reached = turn i (m .reached) e (omega arith) refl (k _ _) }
 
       pub near : length s - g .next < length s - at
-      near = nearer i (m .reached) e
+      near = less-left i (m .reached) e
 
 pub one-at-most : (t : Bool) → pick t 1 0 ≤ 1
 unfolding pick
@@ -117,11 +117,11 @@ module _ {T : Type 0} (f : Line-read → Option T) {s : List ℕ} {at : ℕ} whe
   not-found i m = log.not-found f (m .reached) i refl
 
   module _ {g : Got} (i : at < length s) (m : Made (keep f) none s at none) (e : g ≡ gotAt at s) where
-    pub pass : ((n : ℕ) (h : Held) → none ≡ f (gotRead g s n at h)) → Made (keep f) none s (g .next) none
+    pub keep-passes : ((n : ℕ) (h : Held) → none ≡ f (gotRead g s n at h)) → Made (keep f) none s (g .next) none
     unfolding keep orElse
-    pass k = line i m e k
+    keep-passes k = line i m e k
 
-    pub found : {b : T} → ((n : ℕ) (h : Held) → some b ≡ f (gotRead g s n at h)) →
+    pub keep-finds : {b : T} → ((n : ℕ) (h : Held) → some b ≡ f (gotRead g s n at h)) →
         some b ≡ firstWith f (readings reader s)
     unfolding keep orElse
-    found k = log.found f (line i m e k .reached) refl
+    keep-finds k = log.found f (line i m e k .reached) refl

@@ -1,13 +1,8 @@
 -- A place in a log and the number of lines read so far.
-use Prim.Native.Nat.{ℕ, _+_}
-use mathlib.Core.List.{List}
-use lib.ListN.{length}
-use Rattle.text.specs.Res.{pick, _≤?_, _∧?_}
-use Rattle.text.specs.Word.{largest}
+use Rattle.text.specs.Prelude.{ℕ, _+_, List, length, pick, _≤?_, _∧?_, largest}
 use Rattle.log.specs.Line.{cutAt}
 use Rattle.log.specs.declared.Cut.{Cut}
-use Rattle.walk.specs.declared.cursor.Cursor.{Cursor}
-use Rattle.walk.specs.declared.cursor.Next.{Next}
+use Rattle.walk.specs.declared.{cursor.Cursor.Cursor, cursor.Next.Next}
 use Rattle.walk.specs.declared.cursor.Next.the-variants.{Line, Done}
 
 -- Fresh walks start at place 0 and line number 0.

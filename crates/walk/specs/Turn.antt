@@ -1,6 +1,5 @@
 -- A turn of a loop over a log.
-use Prim.Native.Nat.{ℕ}
-use mathlib.Core.List.{List}
+use Rattle.text.specs.Prelude.{ℕ, List}
 use Rattle.part.specs.Part.{partBytes}
 use Rattle.records.specs.Record.{readLine}
 use Rattle.log.specs.Line.{cutAt}

@@ -1,19 +1,13 @@
 -- One step of a walk.
-use Prim.Native.Nat.{ℕ}
-use mathlib.Core.List.{List}
-use Rattle.text.specs.Res.{Res, ok, no}
+use Rattle.text.specs.Prelude.{ℕ, code, List, Res, ok, no}
 use Rattle.part.specs.Part.{bytesOf}
 use Rattle.records.specs.Record.{readLine}
-use Rattle.records.specs.declared.Record.{Record}
-use Rattle.records.specs.declared.Reading.{Reading}
+use Rattle.records.specs.declared.{Record.Record, Reading.Reading}
 use Rattle.records.specs.declared.Reading.the-variants.{Accepted, Refused}
 use Rattle.held.specs.Held.{noTable, heldAfter}
 use Rattle.walk.specs.Cursor.{start, nextOf}
-use Rattle.walk.specs.declared.cursor.Next.{Next}
-use Rattle.walk.specs.declared.cursor.Next.the-variants as next
-use Rattle.walk.specs.declared.Walk.{Walk}
+use Rattle.walk.specs.declared.{cursor.Next.Next, Walk.Walk, Step.Step}
 use Rattle.walk.specs.declared.Taken.the-variants.{Line, Done}
-use Rattle.walk.specs.declared.Step.{Step}
 
 -- Place 0, line number 0, 99 empty slots and no table.
 unfoldable pub fresh : Walk
@@ -26,11 +20,12 @@ readingOf (no n) = Refused n
 
 -- A step to the line that comes next: I lines set or remove the table. Done changes nothing.
 unfoldable pub stepTo : List ℕ → Walk → Next → Step
-stepTo s w (next.Line cut after) = record {
+stepTo s w (Next.Line cut after) = record {
   taken = Line (cut .line) (readingOf (readLine (bytesOf (cut .line) s)));
-  walk = record { at = after; held = heldAfter 73 (w .held) (bytesOf (cut .line) s) };
+  walk = record { at = after; held = heldAfter (code "I") (w .held) (bytesOf (cut .line) s) };
 }
-stepTo s w next.Done = record { taken = Done; walk = w }
+stepTo s w Next.Done = record { taken = Done; walk = w }
 
+-- One step from where the walk stands.
 unfoldable pub stepOf : List ℕ → Walk → Step
 stepOf s w = stepTo s w (nextOf s (w .at))

@@ -1,4 +1,5 @@
-// A place in a log and the number of lines read so far. It is small, so a loop over a log carries it and keeps the table apart.
+// A place in a log and the number of lines read so far. It is small, so a loop over a log carries it and keeps the
+// table apart.
 ghost use mathlib.Core.Path.{_≡_};
 ghost use Rattle.walk.specs.Cursor.{start, nextOf};
 use log::Cut;
@@ -15,6 +16,7 @@ pub enum Next {
 }
 
 impl Cursor {
+    // At the log's start.
     pub fn new() -> Cursor
         ensures { λ r. ⌜ r ≡ start ⌝ }
     {

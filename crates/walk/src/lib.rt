@@ -35,6 +35,7 @@ pub struct Step {
 }
 
 impl Walk {
+    // At the log's start, with no table.
     pub fn new() -> Walk
         ensures { λ r. ⌜ r ≡ fresh ⌝ }
     {
@@ -43,6 +44,7 @@ impl Walk {
         Walk { held, at }
     }
 
+    // Reads the line at the place, and moves on.
     pub fn step(self, log: &[u8]) -> Step
         ensures { λ r. ⌜ r ≡ stepOf (now (log .entry)) self ⌝ }
     {

@@ -1,12 +1,10 @@
 -- Bytes moved down to the front of a window, one after the other.
-use Prim.Native.Nat.{ℕ, _+_, _-_, _≤_, _<_}
-use mathlib.Core.Path.{_≡_, refl, sym, _∙_}
-use mathlib.Core.List.{List}
+use Rattle.text.specs.Prelude.{ℕ, _+_, _-_, _≤_, _<_, _≡_, List, length, drop, getD, set}
+use Rattle.text.proofs.Prelude.{arith, refl, sym, _∙_, length-drop, drop-of-length-le, sets, getD-drop}
 use native.Mathlib.Nat.{zero-add}
-use native.Mathlib.Omega.{arith}
 use native.Mathlib.Numerals.{add-one}
-use lib.ListN.{length, drop, set, getD, length-set, length-drop, drop-of-length-le}
-use lib.Seq.{sets, sets-eq, paste, paste-zero, paste-suc, drop-paste, getD-drop, take-length}
+use lib.ListN.{length-set}
+use lib.Seq.{sets-eq, paste, paste-zero, paste-suc, drop-paste, take-length}
 
 -- past the end there is none to move
 pub past-end : (w : List ℕ) (from : ℕ) → length w < from → w ≡ sets w 0 (drop from w)

@@ -1,16 +1,9 @@
 -- The whole lines of a piece.
-use Prim.Native.Nat.{ℕ, zero, suc, _+_, _-_, _≤_, _<_}
-use mathlib.Core.Path.{_≡_, refl, sym, ap, _∙_}
-use mathlib.Core.Bool.{true, false}
-use mathlib.Core.List.{List, [], _∷_}
-use native.Mathlib.Omega.{arith}
-use lib.ListN.{length, take, drop}
-use lib.Seq.{drop-cons, drop-length}
-use Rattle.text.specs.Res.{_=?_}
-use Rattle.text.specs.Line.{byte}
-use Rattle.text.proofs.Steps.{first, second, yes=, no=}
+use Rattle.text.specs.Prelude.{ℕ, zero, suc, _+_, _-_, _≤_, _<_, _≡_, true, false, List, [], _∷_, length, take, drop}
+use Rattle.text.specs.Prelude.{_=?_, byte}
+use Rattle.text.proofs.Prelude.{arith, refl, sym, ap, _∙_, drop-cons, drop-length, first, second, yes=, no=}
 use Rattle.log.specs.Log.{closed, closedFrom}
-use Rattle.log.proofs.Ends.{either}
+use Rattle.log.proofs.Ends.{by-test}
 use Rattle.log.proofs.Chunks.{closed-none}
 use Rattle.window.specs.Piece.{grow, wholeLength}
 
@@ -35,13 +28,13 @@ grow-some b (suc n) h = refl
 -- it is at most one more
 grow-le : (b n : ℕ) → grow b n ≤ suc n
 unfolding grow
-grow-le b zero = either (b =? 10) (λ e. omega (arith, grow-lf b e)) (λ e. omega (arith, grow-other b e))
+grow-le b zero = by-test (b =? 10) (λ e. omega (arith, grow-lf b e)) (λ e. omega (arith, grow-other b e))
 grow-le b (suc n) = omega arith
 
 -- whole lines with it are whole lines
 grow-closed : (b n : ℕ) (s : List ℕ) → n ≤ length s → closed (take n s) ≡ true → closed (take (grow b n) (b ∷ s)) ≡ true
 unfolding grow closed closedFrom
-grow-closed b zero s h k = either (b =? 10) (λ e. rw (grow-lf b e) e) (λ e. rw (grow-other b e) closed-none)
+grow-closed b zero s h k = by-test (b =? 10) (λ e. rw (grow-lf b e) e) (λ e. rw (grow-other b e) closed-none)
 grow-closed b (suc n) [] h k = absurd (omega arith)
 grow-closed b (suc n) (x ∷ s) h k = k
 
@@ -62,11 +55,12 @@ whole-closed (b ∷ s) = grow-closed b (wholeLength s) s (whole-le s) (whole-clo
 -- ---- a loop from the end
 
 -- where an LF stands j bytes on, the bytes before it count too
-later : (j : ℕ) (s : List ℕ) → 0 < wholeLength (drop j s) → wholeLength s ≡ j + wholeLength (drop j s)
+wholeLength-later : (j : ℕ) (s : List ℕ) → 0 < wholeLength (drop j s) → wholeLength s ≡ j + wholeLength (drop j s)
 unfolding wholeLength
-later zero s h = omega arith
-later (suc j) [] h = absurd (omega arith)
-later (suc j) (b ∷ s) h = let e = later j s h in grow-some b (wholeLength s) (omega arith) ∙ omega (arith, e)
+wholeLength-later zero s h = omega arith
+wholeLength-later (suc j) [] h = absurd (omega arith)
+wholeLength-later (suc j) (b ∷ s) h = let e = wholeLength-later j s h in grow-some b (wholeLength s) (omega arith)
+    ∙ omega (arith, e)
 
 -- no LF stands from i on
 pub record NoneFrom (s : List ℕ) (i : ℕ) : Type 0 where
@@ -95,7 +89,7 @@ module _ {s : List ℕ} {i : ℕ} (n : NoneFrom s i) (some : 0 < i) where
   pub last-here : byte (i - 1) s ≡ 10 → i ≡ wholeLength s
   last-here e =
       let w : wholeLength (drop (i - 1) s) ≡ 1 = here ∙ grow-lf _ (yes= e) in
-      omega (arith, later (i - 1) s (omega arith))
+      omega (arith, wholeLength-later (i - 1) s (omega arith))
 
   -- it is none
   pub none-here : (byte (i - 1) s ≡ 10 → ⊥) → NoneFrom s (i - 1)

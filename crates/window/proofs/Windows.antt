@@ -1,9 +1,7 @@
 -- A log goes through a window whole.
-use Prim.Native.Nat.{ℕ}
-use mathlib.Core.Path.{_≡_, refl}
-use mathlib.Core.Bool.{true, false}
-use mathlib.Core.List.{List, [], _∷_, _++_, append-assoc}
-use lib.ListN.{take, drop, take-append-drop}
+use Rattle.text.specs.Prelude.{ℕ, _≡_, true, false, List, [], _∷_, _++_, take, drop}
+use Rattle.text.proofs.Prelude.{refl, append-assoc}
+use lib.ListN.{take-append-drop}
 use Rattle.log.specs.Log.{closed}
 use Rattle.log.specs.Pieces.{joined, Whole}
 use Rattle.window.specs.Piece.{pieceEnd, pieces, ThroughWindows}

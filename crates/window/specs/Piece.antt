@@ -1,15 +1,11 @@
 -- How much of a piece of a log can be read, and the pieces of which a log goes through a window.
-use Prim.Native.Nat.{ℕ, zero, suc}
-use mathlib.Core.Path.{_≡_}
-use mathlib.Core.Bool.{Bool, true, false}
-use mathlib.Core.List.{List, [], _∷_, _++_}
-use lib.ListN.{length, take, drop}
-use Rattle.text.specs.Res.{pick, _=?_}
+use Rattle.text.specs.Prelude.{ℕ, zero, suc, _≡_, Bool, true, false, List, [], _∷_, _++_, length, take, drop, pick}
+use Rattle.text.specs.Prelude.{_=?_, LF}
 use Rattle.log.specs.Pieces.{joined, Whole}
 
 -- A byte in front of so many bytes of whole lines.
 unfoldable pub grow : ℕ → ℕ → ℕ
-grow b zero = pick (b =? 10) 1 0
+grow b zero = pick (b =? LF) 1 0
 grow b (suc n) = suc (suc n)
 
 -- How many bytes there are up to the last LF, that LF with them.

@@ -1,9 +1,5 @@
 -- The names asked for, three bytes each, one behind the other.
-use Prim.Native.Nat.{ℕ, _*_}
-use mathlib.Core.Path.{_≡_}
-use mathlib.Core.Bool.{Bool, true, false}
-use mathlib.Core.List.{List}
-use lib.ListN.{length}
+use Rattle.text.specs.Prelude.{ℕ, _*_, _≡_, Bool, true, false, List, length}
 use lib.Seq.{sets}
 
 -- Three bytes stand where name i has its place, and nothing else changed.

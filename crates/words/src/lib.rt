@@ -95,6 +95,26 @@ fn run_fields(at: usize, words: usize, told: i32)
     }
 }
 
+// The fields of standard input, with the program's words as names.
+pub fn run_fields_of_input() {
+    let mut names = name_buffer();
+    let words = os::arg_count();
+    if words <= 1 {
+        run_on(Product::Fields, 0, b"standard input", b"", -1);
+        return;
+    }
+    let count = words - 1;
+    if read_names(1, count, &mut names) {
+        run_on(
+            Product::Fields,
+            0,
+            b"standard input",
+            &names[0..3 * count],
+            -1,
+        );
+    }
+}
+
 // The word is `list`.
 fn is_list(word: [u8; 8], n: usize) -> bool {
     if n != 4 {

@@ -1,4 +1,4 @@
-//! Runs the Rust beside this reader's `fields` (../run), and makes the sample that crates/desk is held to (../vectors).
+//! Runs the Rust beside this reader's `fields` (../run), and makes the sample that crates/fields is held to (../vectors).
 
 mod compare;
 mod every;

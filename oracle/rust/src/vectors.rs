@@ -1,4 +1,4 @@
-//! The sample that crates/desk is held to: a log, and what the Rust wrote for it.
+//! The sample that crates/fields is held to: a log, and what the Rust wrote for it.
 
 use crate::lines::*;
 use crate::random::{log, Random};

@@ -1,7 +1,6 @@
-use borrow.Author.Needs.{needs}
-use mathlib.Core.Path.{_≡_, sym, _∙_}
-use native.Mathlib.Omega.{arith}
-use Rattle.put.proofs.Writing.{nothing}
+use Rattle.text.specs.Prelude.{_≡_}
+use Rattle.text.proofs.Prelude.{needs, arith, sym, _∙_}
+use Rattle.put.proofs.Writing.{wrote-nothing}
 use Rattle.manufacturer.specs.Maker.{tripleOf}
 use Rattle.manufacturer.specs.declared.MaybeTriple.the-variants.{Missing, Triple}
 use Rattle.a_record.specs.ARecord.{tripleText}
@@ -19,10 +18,6 @@ unfolding tripleText
 put-triple-spec =
     tie.close
     (tie.spec
-    (search needs)
-    (search needs)
-    (search needs)
-    (search needs)
-    (search needs)
+    (search needs) (search needs) (search needs) (search needs) (search needs)
     (λ c. rw (three (search needs)) (search needs))
-    (λ c. rw (none c) (nothing _ _ (omega arith) (omega arith))))
+    (λ c. rw (none c) (wrote-nothing _ _ (omega arith) (omega arith))))

@@ -1,12 +1,5 @@
-use borrow.Author.Needs.{needs}
-use Prim.Native.Nat.{ℕ}
-use mathlib.Core.Path.{_≡_, sym}
-use mathlib.Core.Bool.{true}
-use mathlib.Core.List.{List}
-use denote.Ref.{now}
-use Rattle.text.specs.Number.{allDigits}
-use Rattle.text.proofs.Steps.{fails, holds, so-true, so-false}
-use Rattle.text.specs.Line.{cut}
+use Rattle.text.specs.Prelude.{ℕ, _≡_, true, List, now, cut, allDigits}
+use Rattle.text.proofs.Prelude.{needs, sym, holds, fails, so-true, so-false}
 use Rattle.b_quick.specs.Quick.{plainDigits}
 use Rattle.b_quick.proofs.plain.Statement.{statement}
 use Rattle.b_quick.proofs.plain.Tie as tie
@@ -35,28 +28,18 @@ unfolding plainDigits cut
 plain-spec =
     tie.close
     (tie.spec
-    (search needs)
-    (search needs)
-    (search needs)
-    (search needs)
+    (search needs) (search needs) (search needs) (search needs)
     (λ c. sym (fails _ (so-false (c .before .all-digits .ensures) (c .if1 .taken))))
-    (search needs)
-    (search needs)
-    (search needs)
-    (search needs)
+    (search needs) (search needs) (search needs) (search needs)
     (λ c. sym (holds (block1 (search needs)) (fails _ (so-false (c .before .all-digits2 .ensures) (c .if2 .taken)))))
-    (search needs)
-    (search needs)
-    (search needs)
-    (search needs)
-    (λ c. sym (holds (block1 (search needs)) (holds (block2 (search needs)) (fails _ (so-false (c .before .all-digits3 .ensures) (c .if3 .taken))))))
-    (search needs)
-    (search needs)
-    (search needs)
-    (search needs)
-    (λ c. sym (holds (block1 (search needs)) (holds (block2 (search needs)) (holds (block3 (search needs)) (fails _ (so-false (c .before .all-digits4 .ensures) (c .if4 .taken)))))))
-    (search needs)
-    (search needs)
-    (search needs)
-    (search needs)
-    (λ c. sym (holds (block1 (search needs)) (holds (block2 (search needs)) (holds (block3 (search needs)) (holds (block4 (search needs)) (sym (c .all-digits5 .ensures))))))))
+    (search needs) (search needs) (search needs) (search needs)
+    (λ c. sym (holds (block1 (search needs))
+    (holds (block2 (search needs)) (fails _ (so-false (c .before .all-digits3 .ensures) (c .if3 .taken))))))
+    (search needs) (search needs) (search needs) (search needs)
+    (λ c. sym (holds (block1 (search needs))
+    (holds (block2 (search needs))
+    (holds (block3 (search needs)) (fails _ (so-false (c .before .all-digits4 .ensures) (c .if4 .taken)))))))
+    (search needs) (search needs) (search needs) (search needs)
+    (λ c. sym (holds (block1 (search needs))
+    (holds (block2 (search needs))
+    (holds (block3 (search needs)) (holds (block4 (search needs)) (sym (c .all-digits5 .ensures))))))))

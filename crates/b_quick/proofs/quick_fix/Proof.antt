@@ -1,11 +1,5 @@
-use borrow.Author.Needs.{needs}
-use Prim.Native.Nat.{ℕ, _≤_}
-use mathlib.Core.Path.{_≡_, refl}
-use mathlib.Core.Bool.{true, false}
-use mathlib.Core.List.{List}
-use lib.ListN.{length}
-use denote.Ref.{now}
-use Rattle.text.proofs.Steps.{second, fails, holds, pass, yes≤, no≤, so-true, so-false}
+use Rattle.text.specs.Prelude.{ℕ, _≤_, _≡_, true, false, List, length, now}
+use Rattle.text.proofs.Prelude.{needs, refl, pass, second, yes≤, no≤, holds, fails, so-true, so-false}
 use Rattle.field.specs.Field.{isAscii, ascii, asciiIn}
 use Rattle.b_record.specs.BRecord.{readFix, readB}
 use Rattle.b_quick.specs.Quick.{plainDigits, isPlain, quickOf}

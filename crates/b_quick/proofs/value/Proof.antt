@@ -1,21 +1,14 @@
-use Prim.Native.Nat.{ℕ, _+_, _-_, _*_, _≤_}
-use mathlib.Core.Path.{_≡_, refl}
-use mathlib.Core.Bool.{true}
-use mathlib.Core.List.{List}
-use native.Mathlib.Omega.{arith}
+use Rattle.text.specs.Prelude.{ℕ, _+_, _-_, _*_, _≤_, _≡_, true, List, length, drop, getD, now, allDigits, valueFrom}
+use Rattle.text.proofs.Prelude.{needs, arith, refl, drop-cons, drop-length}
 use native.Mathlib.Numerals.{add-one}
-use borrow.Author.Needs.{needs}
-use lib.ListN.{length, drop, getD}
-use lib.Seq.{drop-cons, drop-length}
-use denote.Ref.{now}
-use Rattle.text.specs.Number.{allDigits, valueFrom}
 use Rattle.text.proofs.Decimal.{head-digit, value-ge, value-below}
 use Rattle.b_quick.proofs.value.Statement.{statement}
 use Rattle.b_quick.proofs.value.Tie as tie
 
 -- what is left has digits alone, and its value from here is the value of the whole
 abbrev Inv-loop : tie.InvT-loop
-Inv-loop digits v₀ i₀ v i = (i ≤ length digits) × (allDigits (drop i digits) ≡ true) × (valueFrom v (drop i digits) ≡ valueFrom 0 digits)
+Inv-loop digits v₀ i₀ v i = (i ≤ length digits) × (allDigits (drop i digits) ≡ true)
+    × (valueFrom v (drop i digits) ≡ valueFrom 0 digits)
 
 abbrev μ-loop : tie.MeasureT-loop
 μ-loop digits v₀ i₀ v i = length digits - i
@@ -41,7 +34,12 @@ module _ (c : tie.In-loop Inv-loop μ-loop) where
   five : v * 10 + (getD text i 0 - 48) ≤ 99999
   five =
       let p = c .before .before .pre in
-      omega (arith, rw next at (value-ge (v * 10 + (getD text i 0 - 48)) (drop (i + 1) text)), value-below 5 text (p .0) (p .1))
+      omega (
+        arith,
+        rw next at (value-ge (v * 10 + (getD text i 0 - 48)) (drop (i + 1) text)),
+        value-below 5 text (p .0)
+            (p .1),
+      )
 
 ends : tie.Need-returns Inv-loop μ-loop
 unfolding valueFrom
@@ -62,7 +60,6 @@ value-spec =
     (λ c. omega (arith, here (c .before) .1))
     (λ c. omega (arith, here (c .before) .0))
     (λ c. omega (arith, five (c .before)))
-    (search needs)
-    (search needs)
+    (search needs) (search needs)
     (λ c. (search needs, here (c .before) .2, next (c .before)))
     ends)

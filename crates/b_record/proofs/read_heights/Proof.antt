@@ -1,12 +1,6 @@
-use borrow.Author.Needs.{needs}
-use Prim.Native.Nat.{ℕ}
-use mathlib.Core.Path.{_≡_}
-use mathlib.Core.List.{List}
-use denote.Ref.{now}
-use Rattle.text.specs.Res.{ok, no}
-use Rattle.text.specs.Number.{readInt, i16Res}
-use Rattle.text.proofs.Steps.{came, on, off}
-use Rattle.text.specs.Line.{cut, columns}
+use Rattle.text.specs.Prelude.{ℕ, _≡_, List, now, ok, no, cut, columns, readInt}
+use Rattle.text.proofs.Prelude.{needs, came, on, off}
+use Rattle.text.specs.Number.{i16Res}
 use Rattle.b_record.specs.BRecord.{readHeights}
 use Rattle.b_record.proofs.read_heights.Statement.{statement}
 use Rattle.b_record.proofs.read_heights.Tie as tie
@@ -37,18 +31,8 @@ unfolding readHeights
 read-heights-spec =
     tie.close
     (tie.spec
-    (search needs)
-    (search needs)
-    (search needs)
-    (search needs)
-    (search needs)
-    (search needs)
+    (search needs) (search needs) (search needs) (search needs) (search needs) (search needs)
     (λ c. off _ (no-pressure (search needs)))
-    (search needs)
-    (search needs)
-    (search needs)
-    (search needs)
-    (search needs)
-    (search needs)
+    (search needs) (search needs) (search needs) (search needs) (search needs) (search needs)
     (λ c. on _ (pressure (search needs)) (on _ (gps (search needs)) (search needs)))
     (λ c. on _ (pressure (search needs)) (off _ (no-gps (search needs)))))

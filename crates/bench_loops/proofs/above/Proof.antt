@@ -1,4 +1,5 @@
-use mathlib.Core.Path.{_≡_, sym}
+use Rattle.text.specs.Prelude.{_≡_}
+use Rattle.text.proofs.Prelude.{sym}
 use lib.Dec.{T}
 use lib.IntN.{natAbs}
 use lib.Signed.{nonNeg}
@@ -6,7 +7,7 @@ use mir.Syntax.{w16, w64}
 use mir.Val.{Fits, toZ, ofZ}
 use mir.Facts.{toZ-ofZ}
 use Rattle.bench_loops.specs.Timed.{above}
-use Rattle.bench_loops.proofs.Heights.{below, at-least}
+use Rattle.bench_loops.proofs.Heights.{above-negative, at-least}
 use Rattle.bench_loops.proofs.above.Statement.{statement}
 use Rattle.bench_loops.proofs.above.Tie as tie
 
@@ -21,5 +22,5 @@ above-spec =
     tie.close
     (tie.spec
     (λ c. rw (back (c .before)) (left c .0, left c .1))
-    (λ c. sym (below _ (rw (back (c .before)) at (c .if1 .taken))))
+    (λ c. sym (above-negative _ (rw (back (c .before)) at (c .if1 .taken))))
     (λ c. rw (back (c .before)) (left c .2)))

@@ -1,7 +1,5 @@
-use borrow.Author.Needs.{needs}
-use Prim.Native.Nat.{_+_, _<_, _^_}
-use mathlib.Core.Path.{_≡_}
-use native.Mathlib.Omega.{arith}
+use Rattle.text.specs.Prelude.{_+_, _^_, _<_, _≡_}
+use Rattle.text.proofs.Prelude.{needs, arith}
 use Rattle.b_record.specs.declared.BRecord.{BRecord}
 use Rattle.bench_loops.specs.Timed.{above, ofFix}
 use Rattle.bench_loops.proofs.Heights.{above-is}
@@ -27,7 +25,8 @@ add-heights : tie.Need-add-heights
 add-heights c = omega (arith, pressure (c .before .before) .1, gps c .1)
 
 add-result-2 : tie.Need-add-result-2
-add-result-2 c = let p = c .before .before .before in omega (arith, minutes (p .before .before), pressure p .1, gps (c .before) .1)
+add-result-2 c = let p = c .before .before .before in
+    omega (arith, minutes (p .before .before), pressure p .1, gps (c .before) .1)
 
 returns : tie.Need-returns
 unfolding ofFix
@@ -37,14 +36,8 @@ pub of-fix-spec : {M : Type 1} → statement M
 of-fix-spec =
     tie.close
     (tie.spec
-    (search needs)
-    (search needs)
-    (search needs)
-    (search needs)
-    (search needs)
+    (search needs) (search needs) (search needs) (search needs) (search needs)
     add-heights
-    (search needs)
-    (search needs)
-    (search needs)
+    (search needs) (search needs) (search needs)
     add-result-2
     returns)

@@ -1,5 +1,5 @@
-use borrow.Author.Needs.{needs}
-use mathlib.Core.Path.{_≡_, sym, ap, _∙_}
+use Rattle.text.specs.Prelude.{_≡_}
+use Rattle.text.proofs.Prelude.{needs, sym, ap, _∙_}
 use Rattle.records.specs.Record.{readingRes}
 use Rattle.records.specs.declared.MaybeFix.{MaybeFix}
 use Rattle.bench_loops.specs.Timed.{ofAccepted, ofAnswer}
@@ -17,12 +17,7 @@ unfolding ofAnswer ofAccepted
 of-reading-spec =
     tie.close
     (tie.spec
-    (search needs)
-    (search needs)
-    (search needs)
-    (search needs)
-    (search needs)
-    (search needs)
+    (search needs) (search needs) (search needs) (search needs) (search needs) (search needs)
     (λ c. rw (c .enum-told .given .1))
     (λ c. let fix = c .before .before in c .of-fix .ensures ∙ seen (fix .before .before) (fix .fix2 .given .1))
     (λ c. seen (c .before .before) (c .enum-told2 .given .1)))

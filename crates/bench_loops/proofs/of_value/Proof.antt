@@ -1,21 +1,16 @@
-use borrow.Author.Needs.{needs}
-use Prim.Native.Nat.{ℕ}
-use mathlib.Core.Path.{_≡_, refl}
-use mathlib.Core.List.{List, [], _∷_}
-use native.Mathlib.Omega.{arith}
-use lib.ListN.{length}
-use denote.Ref.{now}
-use Rattle.bench_loops.specs.Timed.{plus, ofValue}
+use Rattle.text.specs.Prelude.{ℕ, _≡_, List, [], _∷_, length, now}
+use Rattle.text.proofs.Prelude.{needs, arith, refl}
+use Rattle.bench_loops.specs.Timed.{summed, ofValue}
 use Rattle.bench_loops.proofs.of_value.Statement.{statement}
 use Rattle.bench_loops.proofs.of_value.Tie as tie
 
 empty : (v : List ℕ) → length v ≡ 0 → 0 ≡ ofValue v
-unfolding ofValue plus
+unfolding ofValue summed
 empty [] e = refl
 empty (b ∷ v) e = absurd (omega arith)
 
 pub of-value-spec : {M : Type 1} → statement M
-unfolding ofValue plus
+unfolding ofValue summed
 of-value-spec =
     tie.close
     (tie.spec

@@ -1,15 +1,14 @@
-use borrow.Author.Needs.{needs}
-use Prim.Native.Nat.{_-_}
-use mathlib.Core.Path.{_≡_, refl, sym}
-use lib.ListN.{length}
+use Rattle.text.specs.Prelude.{_-_, _≡_, length}
+use Rattle.text.proofs.Prelude.{needs, refl, sym}
 use Rattle.walk.proofs.Turns.{Made, at-start, at-end, line, near}
-use Rattle.bench_loops.specs.Timed.{plus, printStep, printedOut}
+use Rattle.bench_loops.specs.Timed.{summed, printStep, printedOut}
 use Rattle.bench_loops.proofs.timed_print.Statement.{statement}
 use Rattle.bench_loops.proofs.timed_print.Tie as tie
 
 abbrev Inv-loop : tie.InvT-loop
 Inv-loop log buf₀ sum₀ at₀ buf sum at =
-    Made printStep (record { sum = 0; bytes = buf₀ }) log at (record { sum = sum; bytes = buf }) × (length buf ≡ length buf₀)
+    Made printStep (record { sum = 0; bytes = buf₀ }) log at (record { sum = sum; bytes = buf })
+    × (length buf ≡ length buf₀)
 
 abbrev μ-loop : tie.MeasureT-loop
 μ-loop log buf₀ sum₀ at₀ buf sum at = length log - at
@@ -20,7 +19,7 @@ loop-less c =
     near (read .before .loop-test .taken) (read .before .before .loop .inv .0) (read .read-at .ensures)
 
 loop-again : tie.Need-loop-again Inv-loop μ-loop
-unfolding printStep plus
+unfolding printStep summed
 loop-again c =
     let print = c .before .before .before in
     let view = print .before .before in
@@ -39,10 +38,7 @@ timed-print-spec =
     Inv-loop
     μ-loop
     (λ c. (at-start, refl))
-    (search needs)
-    (search needs)
-    (search needs)
-    (search needs)
+    (search needs) (search needs) (search needs) (search needs)
     loop-less
     loop-again
     (search needs)

@@ -1,8 +1,7 @@
-use borrow.Author.Needs.{needs}
-use Prim.Native.Nat.{_-_}
-use lib.ListN.{length}
+use Rattle.text.specs.Prelude.{_-_, length}
+use Rattle.text.proofs.Prelude.{needs}
 use Rattle.walk.proofs.Turns.{Made, at-start, at-end, line, near}
-use Rattle.bench_loops.specs.Timed.{plus, readStep, readSum}
+use Rattle.bench_loops.specs.Timed.{summed, readStep, readSum}
 use Rattle.bench_loops.proofs.timed_read.Statement.{statement}
 use Rattle.bench_loops.proofs.timed_read.Tie as tie
 
@@ -18,7 +17,7 @@ loop-less c =
     near (read .before .loop-test .taken) (read .before .before .loop .inv) (read .read-at .ensures)
 
 loop-again : tie.Need-loop-again Inv-loop μ-loop
-unfolding readStep plus
+unfolding readStep summed
 loop-again c =
     let read = c .before .before in
     line (read .before .loop-test .taken) (read .before .before .loop .inv) (read .read-at .ensures)
@@ -32,9 +31,7 @@ timed-read-spec =
     Inv-loop
     μ-loop
     (λ c. at-start)
-    (search needs)
-    (search needs)
-    (search needs)
+    (search needs) (search needs) (search needs)
     loop-less
     loop-again
     (λ c. at-end (c .loop-test .left) (c .before .loop .inv)))

@@ -1,14 +1,11 @@
-use borrow.Author.Needs.{needs}
-use Prim.Native.Nat.{_-_, _≤_}
-use native.Mathlib.Omega.{arith}
-use lib.ListN.{length}
-use Rattle.text.specs.Word.{largest}
+use Rattle.text.specs.Prelude.{_-_, _≤_, length, largest}
+use Rattle.text.proofs.Prelude.{needs, arith}
 use Rattle.log.specs.Fold.{fresh}
 use Rattle.log.proofs.Reached.{Reached, at-start, product}
 use Rattle.walk.specs.Cursor.{start}
 use Rattle.walk.specs.Walk as walk
 use Rattle.walk.specs.Readings.{reader}
-use Rattle.bench_loops.specs.Timed.{plus, readStep, readSum}
+use Rattle.bench_loops.specs.Timed.{summed, readStep, readSum}
 use Rattle.bench_loops.proofs.Walking.{carriedBy, not-done, step-read, step-turn, step-nearer}
 use Rattle.bench_loops.proofs.timed_step.Statement.{statement}
 use Rattle.bench_loops.proofs.timed_step.Tie as tie
@@ -39,7 +36,7 @@ loop-less c =
     step-nearer (inv .1) (test .if1 .taken) (inv .0) (step .step .ensures)
 
 loop-again : tie.Need-loop-again Inv-loop μ-loop
-unfolding readStep plus
+unfolding readStep summed
 loop-again c =
     let of = c .before .before in
     let taken = of .before .before in
@@ -48,8 +45,11 @@ loop-again c =
     let i = test .if1 .taken in
     let inv = test .before .before .loop .inv in
     let e = step .step .ensures in
-    let read = step-read (inv .1) i (inv .0) e (taken .taken .given .1) in
-    (step-turn (inv .1) i (inv .0) e (λ n h. rw (of .of-reading .ensures, read) at (c .before .wrapping-add-u64 .ensures)), inv .1)
+    let read = step-read (inv .1) i (inv .0) e (taken .taken .given .1) in (
+      step-turn (inv .1) i (inv .0) e
+          (λ n h. rw (of .of-reading .ensures, read) at (c .before .wrapping-add-u64 .ensures)),
+      inv .1,
+    )
 
 pub timed-step-spec : {M : Type 1} → statement M
 unfolding readSum
@@ -60,12 +60,9 @@ timed-step-spec =
     μ-loop
     (search needs)
     loop-holds
-    (search needs)
-    (search needs)
+    (search needs) (search needs)
     never
-    (search needs)
-    (search needs)
-    (search needs)
+    (search needs) (search needs) (search needs)
     loop-less
     loop-again
     (λ c. product (omega arith) (c .before .before .loop .inv .0)))

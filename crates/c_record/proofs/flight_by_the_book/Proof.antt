@@ -1,4 +1,4 @@
-use borrow.Author.Needs.{needs}
+use Rattle.text.proofs.Prelude.{needs}
 use Rattle.c_record.specs.CRecord.{flightBook}
 use Rattle.c_record.proofs.flight_by_the_book.Statement.{statement}
 use Rattle.c_record.proofs.flight_by_the_book.Tie as tie
@@ -8,8 +8,6 @@ unfolding flightBook
 flight-by-the-book-spec =
     tie.close
     (tie.spec
-    (search needs)
-    (search needs)
-    (search needs)
+    (search needs) (search needs) (search needs)
     (λ c. rw (c .enum-told .given .1))
     (λ c. rw (c .before .before .flight .given .1) (c .by-the-book .ensures)))

@@ -1,9 +1,6 @@
-use Prim.Native.Nat.{ℕ}
-use mathlib.Core.Path.{refl}
-use borrow.Author.Needs.{needs}
+use Rattle.text.specs.Prelude.{ℕ, pick, _=?_, _∨?_}
+use Rattle.text.proofs.Prelude.{needs, refl, first, second, yes=, no=}
 use lib.ListN.{List·getD-eq-default}
-use Rattle.text.specs.Res.{pick, _=?_, _∨?_}
-use Rattle.text.proofs.Steps.{first, second, yes=, no=}
 use Rattle.c_record.specs.CRecord.{turns}
 use Rattle.c_record.proofs.is_turnpoint.Statement.{statement}
 use Rattle.c_record.proofs.is_turnpoint.Tie as tie
@@ -19,4 +16,5 @@ south c = second _ (no= {b = 78} (c .before .if2 .left)) refl
 
 pub is-turnpoint-spec : {M : Type 1} → statement M
 unfolding turns _∨?_
-is-turnpoint-spec = tie.close (tie.spec none (search needs) (λ c. first _ (yes= (search needs)) refl) (search needs) south)
+is-turnpoint-spec =
+    tie.close (tie.spec none (search needs) (λ c. first _ (yes= (search needs)) refl) (search needs) south)

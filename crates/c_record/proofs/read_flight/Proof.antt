@@ -1,11 +1,5 @@
-use borrow.Author.Needs.{needs}
-use Prim.Native.Nat.{ℕ}
-use mathlib.Core.Path.{_≡_, refl, sym, _∙_}
-use mathlib.Core.Bool.{false}
-use mathlib.Core.List.{List}
-use denote.Ref.{now}
-use Rattle.text.specs.Number.{zeros}
-use Rattle.text.proofs.Steps.{came, on, off, first, second}
+use Rattle.text.specs.Prelude.{ℕ, _≡_, false, List, now, zeros}
+use Rattle.text.proofs.Prelude.{needs, refl, sym, _∙_, came, on, off, first, second}
 use Rattle.datetime.specs.Date.{dateRes}
 use Rattle.c_record.specs.CRecord.{readFlight}
 use Rattle.c_record.proofs.read_flight.Statement.{statement}
@@ -24,8 +18,8 @@ read-flight-spec =
     (tie.spec
     (search needs)
     (λ c. first _ (sym (c .before .all-zeros .ensures) ∙ c .if1 .taken) refl)
-    (search needs)
-    (search needs)
-    (search needs)
-    (λ c. second _ (some (search needs)) (on _ (came dateRes (c .before .date .given .1) (c .before .before .before .parse .ensures)) refl))
-    (λ c. second _ (some (search needs)) (off _ (came dateRes (c .before .no-date .given .1) (c .before .before .before .parse .ensures)))))
+    (search needs) (search needs) (search needs)
+    (λ c. second _ (some (search needs))
+    (on _ (came dateRes (c .before .date .given .1) (c .before .before .before .parse .ensures)) refl))
+    (λ c. second _ (some (search needs))
+    (off _ (came dateRes (c .before .no-date .given .1) (c .before .before .before .parse .ensures)))))

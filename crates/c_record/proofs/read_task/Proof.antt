@@ -1,15 +1,9 @@
-use borrow.Author.Needs.{needs}
-use Prim.Native.Nat.{ℕ}
-use mathlib.Core.Path.{_≡_, refl, ap, _∙_}
-use mathlib.Core.List.{List}
-use denote.Ref.{now}
+use Rattle.text.specs.Prelude.{ℕ, _≡_, List, now, ok, no, cut, columns, readNat, readInt}
+use Rattle.text.proofs.Prelude.{needs, refl, ap, _∙_, came, on, off}
 use mir.Syntax.{w8}
 use mir.Val.{toZ, ofZ}
 use mir.Facts.{toZ-ofZ}
-use Rattle.text.specs.Res.{ok, no}
-use Rattle.text.specs.Number.{readNat, readInt, u16Res, i8Res}
-use Rattle.text.proofs.Steps.{came, on, off}
-use Rattle.text.specs.Line.{cut, columns}
+use Rattle.text.specs.Number.{u16Res, i8Res}
 use Rattle.c_record.specs.CRecord.{readTask}
 use Rattle.c_record.proofs.read_task.Statement.{statement}
 use Rattle.c_record.proofs.read_task.Tie as tie
@@ -28,7 +22,8 @@ no-id c = came u16Res (c .no-id .given .1) (c .before .before .read-u16 .ensures
 count : (c : tie.After-known-told3) →
     let z = c .before .count .given .0 .0 in ok (toZ w8 (ofZ w8 z)) ≡ columns 23 25 (readInt 127) (line (search needs))
 unfolding columns cut
-count c = ap ok (toZ-ofZ (search needs)) ∙ came i8Res (c .before .count .given .1) (c .before .before .before .read-i8 .ensures)
+count c = ap ok (toZ-ofZ (search needs)) ∙ came i8Res (c .before .count .given .1)
+    (c .before .before .before .read-i8 .ensures)
 
 no-count : (c : tie.After-no-count) → no (c .no-count .given .0 .0) ≡ columns 23 25 (readInt 127) (line (search needs))
 unfolding columns cut
@@ -39,18 +34,8 @@ unfolding readTask
 read-task-spec =
     tie.close
     (tie.spec
-    (search needs)
-    (search needs)
-    (search needs)
-    (search needs)
-    (search needs)
-    (search needs)
+    (search needs) (search needs) (search needs) (search needs) (search needs) (search needs)
     (λ c. off _ (no-id (search needs)))
-    (search needs)
-    (search needs)
-    (search needs)
-    (search needs)
-    (search needs)
-    (search needs)
+    (search needs) (search needs) (search needs) (search needs) (search needs) (search needs)
     (λ c. on _ (id (search needs)) (on _ (count c) refl))
     (λ c. on _ (id (search needs)) (off _ (no-count (search needs)))))

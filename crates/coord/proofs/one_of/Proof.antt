@@ -1,9 +1,6 @@
-use borrow.Author.Needs.{needs}
-use Prim.Native.Nat.{ℕ}
-use mathlib.Core.Path.{_≡_, refl}
+use Rattle.text.specs.Prelude.{ℕ, _≡_, _=?_, _∨?_}
+use Rattle.text.proofs.Prelude.{needs, refl, first, second, yes=, no=}
 use lib.Dec.{eqb}
-use Rattle.text.specs.Res.{_=?_, _∨?_}
-use Rattle.text.proofs.Steps.{first, second, yes=, no=}
 use Rattle.coord.proofs.one_of.Statement.{statement}
 use Rattle.coord.proofs.one_of.Tie as tie
 
@@ -16,8 +13,7 @@ unfolding _∨?_
 one-of-spec =
     tie.close
     (tie.spec
-    (search needs)
-    (search needs)
+    (search needs) (search needs)
     (λ c. first _ (yes= (search needs)) refl)
     (search needs)
     (λ c. second _ (no= (search needs)) (same (c .before .before .before .letter .ensures) (c .letter3 .ensures))))

@@ -1,6 +1,4 @@
-use borrow.Author.Needs.{needs}
-use mathlib.Core.Path.{refl}
-use Rattle.text.proofs.Steps.{first, second, yes=, no=}
+use Rattle.text.proofs.Prelude.{needs, refl, first, second, yes=, no=}
 use Rattle.coord.specs.Coord.{signOf}
 use Rattle.coord.proofs.sign_of.Statement.{statement}
 use Rattle.coord.proofs.sign_of.Tie as tie

@@ -1,4 +1,4 @@
-use borrow.Author.Needs.{needs}
+use Rattle.text.proofs.Prelude.{needs}
 use Rattle.put.proofs.Writing.{then}
 use Rattle.datetime.specs.Three.{threeText}
 use Rattle.datetime.proofs.put_three.Statement.{statement}

@@ -1,13 +1,6 @@
-use borrow.Author.Needs.{needs}
-use Prim.Native.Nat.{ℕ}
-use mathlib.Core.Path.{_≡_, refl}
-use mathlib.Core.List.{List}
-use lib.ListN.{length}
-use denote.Ref.{now}
-use Rattle.text.specs.Res.{ok, no}
-use Rattle.text.specs.Number.{readNat, u8Res}
-use Rattle.text.proofs.Steps.{came, on, off, pass, stop, yes=, no=}
-use Rattle.text.specs.Line.{cut, columns}
+use Rattle.text.specs.Prelude.{ℕ, _≡_, List, length, now, ok, no, cut, columns, readNat}
+use Rattle.text.proofs.Prelude.{needs, refl, came, on, off, pass, stop, yes=, no=}
+use Rattle.text.specs.Number.{u8Res}
 use Rattle.field.specs.Field.{sized}
 use Rattle.datetime.specs.Three.{readThree}
 use Rattle.datetime.proofs.read_three.Statement.{statement}
@@ -49,25 +42,12 @@ read-three-spec =
     tie.close
     (tie.spec
     (λ c. stop _ (no= (search needs)))
-    (search needs)
-    (search needs)
-    (search needs)
-    (search needs)
-    (search needs)
-    (search needs)
+    (search needs) (search needs) (search needs) (search needs) (search needs) (search needs)
     (λ c. pass _ (yes= (six (search needs))) (off _ (no-first (search needs))))
-    (search needs)
-    (search needs)
-    (search needs)
-    (search needs)
-    (search needs)
-    (search needs)
+    (search needs) (search needs) (search needs) (search needs) (search needs) (search needs)
     (λ c. pass _ (yes= (six (search needs))) (on _ (first (search needs)) (off _ (no-second (search needs)))))
-    (search needs)
-    (search needs)
-    (search needs)
-    (search needs)
-    (search needs)
-    (search needs)
-    (λ c. pass _ (yes= (six (search needs))) (on _ (first (search needs)) (on _ (second (search needs)) (on _ (third (search needs)) refl))))
-    (λ c. pass _ (yes= (six (search needs))) (on _ (first (search needs)) (on _ (second (search needs)) (off _ (no-third (search needs)))))))
+    (search needs) (search needs) (search needs) (search needs) (search needs) (search needs)
+    (λ c. pass _ (yes= (six (search needs)))
+    (on _ (first (search needs)) (on _ (second (search needs)) (on _ (third (search needs)) refl))))
+    (λ c. pass _ (yes= (six (search needs)))
+    (on _ (first (search needs)) (on _ (second (search needs)) (off _ (no-third (search needs)))))))

@@ -11,4 +11,6 @@ abbrev μ-loop : tie.MeasureT-loop
 μ-loop row sign sums₀ degrees₀ sums degrees = 181 - degrees
 
 pub all-degrees-spec : {M : Type 1} → statement M
-all-degrees-spec = tie.close (tie.spec Inv-loop μ-loop (λ c. tt) (search needs) (λ c. omega arith) (λ c. omega arith) (λ c. tt) (search needs))
+all-degrees-spec =
+    tie.close (tie.spec Inv-loop μ-loop (λ c. tt) (search needs) (λ c. omega arith) (λ c. omega arith) (λ c. tt)
+    (search needs))

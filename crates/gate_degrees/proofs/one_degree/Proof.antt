@@ -12,4 +12,5 @@ abbrev μ-loop : tie.MeasureT-loop
 
 pub one-degree-spec : {M : Type 1} → statement M
 one-degree-spec =
-    tie.close (tie.spec Inv-loop μ-loop (λ c. tt) (search needs) (search needs) (search needs) (λ c. omega arith) (λ c. omega arith) (λ c. tt) (search needs))
+    tie.close (tie.spec Inv-loop μ-loop (λ c. tt) (search needs) (search needs) (search needs) (λ c. omega arith)
+    (λ c. omega arith) (λ c. tt) (search needs))

@@ -1,6 +1,5 @@
-use Prim.Native.Nat.{_-_}
-use native.Mathlib.Omega.{arith}
-use borrow.Author.Needs.{needs}
+use Rattle.text.specs.Prelude.{_-_}
+use Rattle.text.proofs.Prelude.{needs, arith}
 use Rattle.gate_numbers.proofs.all.Statement.{statement}
 use Rattle.gate_numbers.proofs.all.Tie as tie
 
@@ -12,4 +11,5 @@ abbrev μ-loop : tie.MeasureT-loop
 
 pub all-spec : {M : Type 1} → statement M
 all-spec =
-    tie.close (tie.spec Inv-loop μ-loop (λ c. tt) (search needs) (search needs) (search needs) (λ c. omega arith) (λ c. omega arith) (λ c. tt) (search needs))
+    tie.close (tie.spec Inv-loop μ-loop (λ c. tt) (search needs) (search needs) (search needs) (λ c. omega arith)
+    (λ c. omega arith) (λ c. tt) (search needs))

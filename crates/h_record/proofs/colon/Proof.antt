@@ -1,9 +1,7 @@
-use Prim.Native.Nat.{_+_, _≤_, _-_}
-use mathlib.Core.Path.{_≡_, refl}
-use borrow.Author.Needs.{needs}
-use lib.ListN.{length, drop}
+use Rattle.text.specs.Prelude.{_+_, _-_, _≤_, _≡_, length, drop}
+use Rattle.text.proofs.Prelude.{needs, refl}
 use Rattle.h_record.specs.HRecord.{colonIn}
-use Rattle.h_record.proofs.Colons.{here, further, nowhere}
+use Rattle.h_record.proofs.Colons.{here, colon-next, colon-nowhere}
 use Rattle.h_record.proofs.colon.Statement.{statement}
 use Rattle.h_record.proofs.colon.Tie as tie
 
@@ -18,10 +16,11 @@ found : tie.Need-returns Inv-loop μ-loop
 found c = here _ _ (c .before .before .before .loop .inv .1) (search needs) (c .if1 .taken)
 
 loop-again : tie.Need-loop-again Inv-loop μ-loop
-loop-again c = (search needs, further _ _ (c .before .before .before .loop .inv .1) (search needs) (c .if1 .left))
+loop-again c = (search needs, colon-next _ _ (c .before .before .before .loop .inv .1) (search needs) (c .if1 .left))
 
 ends : tie.Need-returns-2 Inv-loop μ-loop
-ends c = nowhere _ _ (c .before .loop .inv .1) (search needs)
+ends c = colon-nowhere _ _ (c .before .loop .inv .1) (search needs)
 
 pub colon-spec : {M : Type 1} → statement M
-colon-spec = tie.close (tie.spec Inv-loop μ-loop (λ c. (search needs, refl)) (search needs) found (search needs) (search needs) loop-again ends)
+colon-spec = tie.close (tie.spec Inv-loop μ-loop (λ c. (search needs, refl)) (search needs) found (search needs)
+    (search needs) loop-again ends)

@@ -1,8 +1,5 @@
-use borrow.Author.Needs.{needs}
-use mathlib.Core.Path.{_≡_}
-use mathlib.Core.Bool.{true, false}
-use Rattle.text.specs.Res.{pick, _≤?_}
-use Rattle.text.proofs.Steps.{yes≤, no≤}
+use Rattle.text.specs.Prelude.{_≡_, true, false, pick, _≤?_}
+use Rattle.text.proofs.Prelude.{needs, yes≤, no≤}
 use Rattle.put.proofs.Writing.{then}
 use Rattle.h_record.specs.HRecord.{charText}
 use Rattle.h_record.proofs.put_char.Statement.{statement}
@@ -19,12 +16,7 @@ unfolding charText pick
 put-char-spec =
     tie.close
     (tie.spec
-    (search needs)
-    (search needs)
+    (search needs) (search needs)
     (λ c. rw (one (search needs)) (search needs))
-    (search needs)
-    (search needs)
-    (search needs)
-    (search needs)
-    (search needs)
+    (search needs) (search needs) (search needs) (search needs) (search needs)
     (λ c. rw (two (search needs)) (search (then))))

@@ -1,9 +1,5 @@
-use borrow.Author.Needs.{needs}
-use Prim.Native.Nat.{_-_, _≤_}
-use mathlib.Core.Path.{_≡_, refl, sym, _∙_}
-use native.Mathlib.Omega.{arith}
-use lib.ListN.{length, drop}
-use Rattle.text.proofs.Steps.{first, second}
+use Rattle.text.specs.Prelude.{_-_, _≤_, _≡_, length, drop}
+use Rattle.text.proofs.Prelude.{needs, arith, refl, sym, _∙_, first, second}
 use Rattle.table.specs.Table.{defsOf}
 use Rattle.table.proofs.Defs.{long-under}
 use Rattle.held.specs.Held.{firstNamed}
@@ -24,16 +20,19 @@ inside c = let n : length (c .args .t1 .defs) ≡ 99 = search (needs, long-under
 here : tie.Need-returns Inv-loop μ-loop
 here c =
     let l = c .before .before .before .before .before .loop in
-    first _ (sym (c .before .same-name .ensures) ∙ c .if1 .taken) refl ∙ first-or-later _ _ (l .i) (inside (search needs)) (search needs) ∙ l .inv
+    first _ (sym (c .before .same-name .ensures) ∙ c .if1 .taken) refl ∙ first-or-later _ _ (l .i)
+    (inside (search needs)) (search needs) ∙ l .inv
 
 later : tie.Need-loop-again Inv-loop μ-loop
 later c =
     let l = c .before .before .before .before .before .loop in
-    second _ (sym (c .before .same-name .ensures) ∙ c .if1 .left) refl ∙ first-or-later _ _ (l .i) (inside (search needs)) (search needs) ∙ l .inv
+    second _ (sym (c .before .same-name .ensures) ∙ c .if1 .left) refl ∙ first-or-later _ _ (l .i)
+    (inside (search needs)) (search needs) ∙ l .inv
 
 none : tie.Need-returns-2 Inv-loop μ-loop
 none c = none-left _ _ (c .before .loop .i) (inside (search needs)) (search needs) ∙ c .before .loop .inv
 
 pub first-named-spec : {M : Type 1} → statement M
 first-named-spec =
-    tie.close (tie.spec Inv-loop μ-loop (search needs) (λ c. refl) (search needs) (search needs) (search needs) here (search needs) (search needs) later none)
+    tie.close (tie.spec Inv-loop μ-loop (search needs) (λ c. refl) (search needs) (search needs) (search needs) here
+    (search needs) (search needs) later none)

@@ -1,9 +1,6 @@
-use borrow.Author.Needs.{needs}
-use Prim.Native.Nat.{ℕ}
-use mathlib.Core.Path.{_≡_, refl, sym}
+use Rattle.text.specs.Prelude.{ℕ, _≡_, _=?_}
+use Rattle.text.proofs.Prelude.{needs, refl, sym, yes=, no=, holds, fails}
 use lib.Dec.{eqb}
-use Rattle.text.specs.Res.{_=?_}
-use Rattle.text.proofs.Steps.{fails, holds, yes=, no=}
 use Rattle.held.specs.Held.{sameName}
 use Rattle.held.proofs.same_name.Statement.{statement}
 use Rattle.held.proofs.same_name.Tie as tie

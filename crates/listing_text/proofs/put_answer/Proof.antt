@@ -1,4 +1,4 @@
-use borrow.Author.Needs.{needs}
+use Rattle.text.proofs.Prelude.{needs}
 use Rattle.put.proofs.Writing.{then}
 use Rattle.listing_text.specs.Line.{plain, answerText}
 use Rattle.listing_text.proofs.Answers.{number-is}
@@ -13,18 +13,13 @@ returns c =
     let letter = second .before .before .before .before in
     let first = letter .before .before .before .before .before in
     rw (letter .before .letter-of .ensures, number-is _ (answer .before .number .ensures))
-    at (then (first .put-byte .ensures) (then (letter .put-byte2 .ensures) (then (second .put-byte3 .ensures) (answer .put-nat .ensures))))
+    at (then (first .put-byte .ensures)
+    (then (letter .put-byte2 .ensures) (then (second .put-byte3 .ensures) (answer .put-nat .ensures))))
 
 pub put-answer-spec : {M : Type 1} → statement M
 put-answer-spec =
     tie.close
     (tie.spec
-    (search needs)
-    (search needs)
-    (search needs)
-    (search needs)
-    (search needs)
-    (search needs)
-    (search needs)
+    (search needs) (search needs) (search needs) (search needs) (search needs) (search needs) (search needs)
     (search needs)
     returns)

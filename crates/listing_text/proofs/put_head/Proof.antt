@@ -1,4 +1,4 @@
-use borrow.Author.Needs.{needs}
+use Rattle.text.proofs.Prelude.{needs}
 use Rattle.put.proofs.Writing.{then}
 use Rattle.listing_text.specs.Line.{plain, headText}
 use Rattle.listing_text.proofs.put_head.Statement.{statement}

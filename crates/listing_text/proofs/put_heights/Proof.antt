@@ -1,6 +1,5 @@
-use borrow.Author.Needs.{needs}
-use native.Mathlib.Omega.{arith}
-use Rattle.put.proofs.Writing.{nothing}
+use Rattle.text.proofs.Prelude.{needs, arith}
+use Rattle.put.proofs.Writing.{wrote-nothing}
 use Rattle.listing_text.specs.Line.{heightsOf}
 use Rattle.listing_text.proofs.put_heights.Statement.{statement}
 use Rattle.listing_text.proofs.put_heights.Tie as tie
@@ -16,9 +15,6 @@ unfolding heightsOf
 put-heights-spec =
     tie.close
     (tie.spec
-    (search needs)
-    (search needs)
-    (search needs)
-    (search needs)
+    (search needs) (search needs) (search needs) (search needs)
     fix
-    (λ c. rw (c .enum-told .given .1) (nothing _ _ (omega arith) (omega arith))))
+    (λ c. rw (c .enum-told .given .1) (wrote-nothing _ _ (omega arith) (omega arith))))

@@ -1,6 +1,5 @@
-use borrow.Author.Needs.{needs}
-use native.Mathlib.Omega.{arith}
-use denote.Ref.{now}
+use Rattle.text.specs.Prelude.{now}
+use Rattle.text.proofs.Prelude.{needs, arith}
 use Rattle.listing_text.proofs.Limit.{paper-has-room}
 use Rattle.paper.proofs.Fitting.{all-written, not-refused}
 use Rattle.paper.proofs.put_paper.Statement.{statement}
@@ -25,10 +24,7 @@ pub put-paper-spec : {M : Type 1} → statement M
 put-paper-spec =
     tie.close
     (tie.spec
-    (search needs)
-    (search needs)
-    (search needs)
-    (search needs)
+    (search needs) (search needs) (search needs) (search needs)
     written
     (search needs)
     refused)

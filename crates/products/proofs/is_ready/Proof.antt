@@ -1,12 +1,7 @@
-use borrow.Author.Needs.{needs}
-use Prim.Native.Nat.{ℕ, _+_, _-_, _≤_}
-use mathlib.Core.Path.{_≡_, refl, sym, _∙_}
-use native.Mathlib.Omega.{arith}
+use Rattle.text.specs.Prelude.{ℕ, _+_, _-_, _≤_, _≡_, _≤?_, largest}
+use Rattle.text.proofs.Prelude.{needs, arith, refl, sym, _∙_, yes≤, no≤, is≤, isnt≤, holds, fails, tested}
 use lib.Dec.{leb}
-use Rattle.text.specs.Res.{_≤?_}
-use Rattle.text.specs.Word.{largest}
-use Rattle.text.proofs.Steps.{yes≤, no≤, is≤, isnt≤, tested, fails, holds}
-use Rattle.log.proofs.Ends.{either}
+use Rattle.log.proofs.Ends.{by-test}
 use Rattle.products.specs.Feed.{isReady}
 use Rattle.products.proofs.is_ready.Statement.{statement}
 use Rattle.products.proofs.is_ready.Tie as tie
@@ -15,7 +10,7 @@ use Rattle.products.proofs.is_ready.Tie as tie
 room : (a n : ℕ) → a ≤ largest → leb n (largest - a) ≡ (a + n ≤? largest)
 room a n h =
     sym (tested n (largest - a))
-    ∙ either (a + n ≤? largest) (λ e. yes≤ (omega (arith, is≤ e)) ∙ sym e) (λ e. no≤ (omega (arith, isnt≤ e)) ∙ sym e)
+    ∙ by-test (a + n ≤? largest) (λ e. yes≤ (omega (arith, is≤ e)) ∙ sym e) (λ e. no≤ (omega (arith, isnt≤ e)) ∙ sym e)
 
 pub is-ready-spec : {M : Type 1} → statement M
 unfolding isReady

@@ -1,8 +1,8 @@
-use borrow.Author.Needs.{needs}
-use Rattle.products.specs.Feed.{fresh}
+use Rattle.text.proofs.Prelude.{needs}
+use Rattle.products.specs.Feed.{atFirst}
 use Rattle.products.proofs.new.Statement.{statement}
 use Rattle.products.proofs.new.Tie as tie
 
 pub new-spec : {M : Type 1} → statement M
-unfolding fresh
+unfolding atFirst
 new-spec = tie.close (tie.spec (search needs) (search needs) (λ c. rw (c .before .new .ensures, c .new2 .ensures)))

@@ -1,4 +1,4 @@
-use borrow.Author.Needs.{needs}
+use Rattle.text.proofs.Prelude.{needs}
 use Rattle.products.specs.Product.{productLine}
 use Rattle.products.proofs.put_line.Statement.{statement}
 use Rattle.products.proofs.put_line.Tie as tie
@@ -8,11 +8,7 @@ unfolding productLine
 put-line-spec =
     tie.close
     (tie.spec
-    (search needs)
-    (search needs)
-    (search needs)
-    (search needs)
-    (search needs)
+    (search needs) (search needs) (search needs) (search needs) (search needs)
     (λ c. let put = c .before .before in rw (put .before .before .enum-told .given .1) (put .put-line .ensures))
     (search needs)
     (λ c. let put = c .before .before in rw (put .before .before .enum-told2 .given .1) (put .put-line2 .ensures)))

@@ -1,5 +1,4 @@
-use borrow.Author.Needs.{needs}
-use mathlib.Core.Path.{refl, sym, _∙_}
+use Rattle.text.proofs.Prelude.{needs, refl, sym, _∙_}
 use Rattle.products.proofs.put_lines.Statement.{statement}
 use Rattle.products.proofs.put_lines.Tie as tie
 

@@ -1,12 +1,8 @@
-use borrow.Author.Needs.{needs}
-use Prim.Native.Nat.{_+_, _-_, _≤_, _<_}
-use mathlib.Core.Path.{_∙_}
-use native.Mathlib.Omega.{arith}
-use lib.ListN.{length}
-use Rattle.text.specs.Word.{largest}
-use Rattle.put.proofs.Writing.{kept}
+use Rattle.text.specs.Prelude.{_+_, _-_, _≤_, _<_, length, largest}
+use Rattle.text.proofs.Prelude.{needs, arith, _∙_}
+use Rattle.put.proofs.Writing.{wrote-length}
 use Rattle.walk.specs.declared.Walk.{Walk}
-use Rattle.walk.proofs.Turns.{nearer}
+use Rattle.walk.proofs.Turns.{less-left}
 use Rattle.products.specs.declared.Carried.{Carried}
 use Rattle.products.proofs.Feeding.{Feeding, at-start, at-end, place-small, counts-small, line, full}
 use Rattle.products.proofs.put_ready.Statement.{statement}
@@ -40,13 +36,13 @@ same-length : tie.Need-same-length Inv-loop μ-loop
 same-length c =
     let put = c .before .before .before in
     let test = put .before .before .before .before .before .before in
-    kept (put .put-line .ensures) ∙ kept (test .before .loop .inv .wrote)
+    wrote-length (put .put-line .ensures) ∙ wrote-length (test .before .loop .inv .wrote)
 
 loop-less : tie.Need-loop-less Inv-loop μ-loop
 loop-less c =
     let read = c .before .before .before .before .before .before .before .before .before in
     let test = read .before in
-    nearer (test .loop-test .taken) (test .before .loop .inv .reached) (read .read-at .ensures)
+    less-left (test .loop-test .taken) (test .before .loop .inv .reached) (read .read-at .ensures)
 
 loop-again : tie.Need-loop-again Inv-loop μ-loop
 loop-again c =
@@ -75,9 +71,7 @@ put-ready-spec =
     Inv-loop
     μ-loop
     loop-holds
-    (search needs)
-    (search needs)
-    (search needs)
+    (search needs) (search needs) (search needs)
     (λ c. omega (arith, number-fits (search needs)))
     (search needs)
     (λ c. omega (arith, place-fits (search needs)))
@@ -89,5 +83,5 @@ put-ready-spec =
     loop-less
     loop-again
     (λ c. omega (arith, place-fits (search needs)))
-    (λ c. kept (c .before .loop .inv .wrote))
+    (λ c. wrote-length (c .before .loop .inv .wrote))
     (λ c. at-end (c .before .loop .inv) (c .loop-test .left)))

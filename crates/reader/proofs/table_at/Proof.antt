@@ -1,4 +1,4 @@
-use borrow.Author.Needs.{needs}
+use Rattle.text.proofs.Prelude.{needs}
 use Rattle.reader.proofs.table_at.Statement.{statement}
 use Rattle.reader.proofs.table_at.Tie as tie
 

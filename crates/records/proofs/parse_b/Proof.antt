@@ -1,6 +1,4 @@
-use borrow.Author.Needs.{needs}
-use mathlib.Core.Path.{refl, sym, _∙_}
-use Rattle.text.proofs.Steps.{came, on, off}
+use Rattle.text.proofs.Prelude.{needs, refl, sym, _∙_, came, on, off}
 use Rattle.b_record.specs.BRecord.{bRes}
 use Rattle.b_quick.proofs.Sure.{quick-is-read}
 use Rattle.records.proofs.parse_b.Statement.{statement}
@@ -25,12 +23,7 @@ pub parse-b-spec : {M : Type 1} → statement M
 parse-b-spec =
     tie.close
     (tie.spec
-    (search needs)
-    (search needs)
-    (search needs)
-    (search needs)
-    (search needs)
-    (search needs)
+    (search needs) (search needs) (search needs) (search needs) (search needs) (search needs)
     quick
     plain
     refused)

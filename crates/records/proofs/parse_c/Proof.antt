@@ -1,12 +1,5 @@
-use borrow.Author.Needs.{needs}
-use Prim.Native.Nat.{ℕ, _≤_}
-use mathlib.Core.Path.{_≡_, refl, sym, _∙_}
-use mathlib.Core.Bool.{true, false}
-use mathlib.Core.List.{List}
-use lib.ListN.{length}
-use denote.Ref.{now}
-use Rattle.text.specs.Res.{ok, no}
-use Rattle.text.proofs.Steps.{came, on, off, pass, stop, first, second, yes≤, no≤}
+use Rattle.text.specs.Prelude.{ℕ, _≤_, _≡_, true, false, List, length, now, ok, no}
+use Rattle.text.proofs.Prelude.{needs, refl, sym, _∙_, came, on, off, pass, stop, first, second, yes≤, no≤}
 use Rattle.c_record.specs.CRecord.{turns, readDeclaration, readTurnpoint, declarationRes, turnpointRes}
 use Rattle.records.specs.Record.{readC}
 use Rattle.records.proofs.parse_c.Statement.{statement}
@@ -42,14 +35,9 @@ parse-c-spec =
     tie.close
     (tie.spec
     (λ c. stop _ (no≤ (search needs)))
-    (search needs)
-    (search needs)
-    (search needs)
-    (search needs)
+    (search needs) (search needs) (search needs) (search needs)
     (λ c. pass _ (yes≤ (long (search needs))) (first _ (turn (search needs)) (on _ (point (search needs)) refl)))
     (λ c. pass _ (yes≤ (long (search needs))) (first _ (turn (search needs)) (off _ (no-point (search needs)))))
-    (search needs)
-    (search needs)
-    (search needs)
+    (search needs) (search needs) (search needs)
     (λ c. pass _ (yes≤ (long (search needs))) (second _ (no-turn (search needs)) (on _ (task (search needs)) refl)))
     (λ c. pass _ (yes≤ (long (search needs))) (second _ (no-turn (search needs)) (off _ (no-task (search needs))))))

@@ -1,8 +1,5 @@
-use borrow.Author.Needs.{needs}
-use mathlib.Core.Path.{refl, sym, _∙_}
-use native.Mathlib.Omega.{arith}
-use denote.Ref.{now}
-use Rattle.text.proofs.Steps.{never}
+use Rattle.text.specs.Prelude.{now}
+use Rattle.text.proofs.Prelude.{needs, refl, sym, _∙_, never}
 use Rattle.window.specs.Piece.{pieceEnd}
 use Rattle.window.proofs.Wholes.{whole-le}
 use Rattle.stream.proofs.Streaming.{goes-nowhere, goes-last, drained}
@@ -39,20 +36,11 @@ pub drain-spec : {M : Type 1} → statement M
 drain-spec =
     tie.close
     (tie.spec
-    (search needs)
-    (search needs)
-    (search needs)
+    (search needs) (search needs) (search needs)
     long-line
-    (search needs)
-    (search needs)
+    (search needs) (search needs)
     inside
-    (search needs)
-    (search needs)
-    (search needs)
-    (search needs)
-    (search needs)
+    (search needs) (search needs) (search needs) (search needs) (search needs)
     not-written
-    (search needs)
-    (search needs)
-    (search needs)
+    (search needs) (search needs) (search needs)
     kept)

@@ -1,5 +1,4 @@
-use borrow.Author.Needs.{needs}
-use mathlib.Core.Path.{sym, _∙_}
+use Rattle.text.proofs.Prelude.{needs, sym, _∙_}
 use Rattle.stream.proofs.Streaming.{finished}
 use Rattle.stream.proofs.finish.Statement.{statement}
 use Rattle.stream.proofs.finish.Tie as tie
@@ -22,12 +21,7 @@ pub finish-spec : {M : Type 1} → statement M
 finish-spec =
     tie.close
     (tie.spec
-    (search needs)
-    (search needs)
-    (search needs)
-    (search needs)
+    (search needs) (search needs) (search needs) (search needs)
     cut-short
-    (search needs)
-    (search needs)
-    (search needs)
+    (search needs) (search needs) (search needs)
     closed)

@@ -1,7 +1,5 @@
-use borrow.Author.Needs.{needs}
-use Prim.Native.Nat.{ℕ, _-_}
-use mathlib.Core.Path.{_≡_}
-use native.Mathlib.Omega.{arith}
+use Rattle.text.specs.Prelude.{ℕ, _-_, _≡_}
+use Rattle.text.proofs.Prelude.{needs, arith}
 use Rattle.stream.proofs.one_turn.Statement.{statement}
 use Rattle.stream.proofs.one_turn.Tie as tie
 
@@ -34,19 +32,10 @@ pub one-turn-spec : {M : Type 1} → statement M
 one-turn-spec =
     tie.close
     (tie.spec
-    (search needs)
-    (search needs)
-    (search needs)
+    (search needs) (search needs) (search needs)
     inside
-    (search needs)
-    (search needs)
-    (search needs)
-    (search needs)
-    (search needs)
-    (search needs)
-    (search needs)
+    (search needs) (search needs) (search needs) (search needs) (search needs) (search needs) (search needs)
     ended
-    (search needs)
-    (search needs)
+    (search needs) (search needs)
     full
     failed)

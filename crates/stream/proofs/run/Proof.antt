@@ -1,11 +1,7 @@
-use borrow.Author.Needs.{needs}
-use Prim.Native.Nat.{_-_}
-use mathlib.Core.Path.{_≡_, refl, _∙_}
-use mathlib.Core.Bool.{true}
-use lib.ListN.{length}
-use Rattle.text.specs.Word.{largest}
-use Rattle.products.specs.Feed.{fresh}
-use Rattle.files.proofs.Filling.{within}
+use Rattle.text.specs.Prelude.{_-_, _≡_, true, length, largest}
+use Rattle.text.proofs.Prelude.{needs, refl, _∙_}
+use Rattle.products.specs.Feed.{atFirst}
+use Rattle.files.proofs.Filling.{ended-inside}
 use Rattle.stream.specs.Stream.{Goes}
 use Rattle.stream.proofs.Streaming.{goes-nowhere, goes-last-of, goes-more, goes-on, goes-turned}
 use Rattle.stream.proofs.run.Statement.{statement}
@@ -13,14 +9,14 @@ use Rattle.stream.proofs.run.Tie as tie
 
 abbrev Inv-loop : tie.InvT-loop
 Inv-loop product from win₀ names to out₀ carried₀ fill₀ turns₀ win out carried fill turns =
-    Goes fresh carried true × (length win ≡ length win₀) × (length out ≡ length out₀)
+    Goes atFirst carried true × (length win ≡ length win₀) × (length out ≡ length out₀)
 
 abbrev μ-loop : tie.MeasureT-loop
 μ-loop product from win₀ names to out₀ carried₀ fill₀ turns₀ win out carried fill turns = largest - turns
 
 -- one turn more
 turned : (c : tie.After-one-turn Inv-loop μ-loop) →
-    Goes fresh (c .one-turn .result .carried) (c .one-turn .result .more)
+    Goes atFirst (c .one-turn .result .carried) (c .one-turn .result .more)
 turned c =
     let read = c .before .before .before .before .before in
     let loop = read .before .before .before .loop in
@@ -45,14 +41,12 @@ run-spec =
     μ-loop
     (search needs)
     (λ c. (rw (c .new .ensures) goes-nowhere, refl, refl))
-    (search needs)
-    (search needs)
-    (λ c κs. let read = c .before .before .before .before in within (read .read-on .result) (read .read-on .ensures))
-    (search needs)
-    (search needs)
+    (search needs) (search needs)
+    (λ c κs. let read = c .before .before .before .before in ended-inside (read .read-on .result)
+    (read .read-on .ensures))
+    (search needs) (search needs)
     (λ c. goes-last-of (turned (c .before .before .before .before .before .before .before)))
     (search needs)
     more
-    (search needs)
-    (search needs)
+    (search needs) (search needs)
     (λ c. goes-last-of (c .before .loop .inv .0)))

@@ -1,10 +1,5 @@
-use borrow.Author.Needs.{needs}
-use Prim.Native.Nat.{_+_, _-_, _≤_}
-use mathlib.Core.Path.{_≡_, refl, sym, _∙_}
-use native.Mathlib.Omega.{arith}
-use denote.Ref.{now}
-use lib.ListN.{length}
-use Rattle.text.specs.Word.{largest}
+use Rattle.text.specs.Prelude.{_+_, _-_, _≤_, _≡_, length, now, largest}
+use Rattle.text.proofs.Prelude.{needs, arith, refl, sym, _∙_}
 use Rattle.log.proofs.Reached.{at-start}
 use Rattle.files.specs.Outcome.{hasFailed}
 use Rattle.stream.proofs.Streaming.{Streaming, went-on, stopped, put-more}
@@ -64,18 +59,11 @@ write-lines-spec =
     Inv-loop
     μ-loop
     (λ c. (at-start, refl, omega arith))
-    (search needs)
-    (search needs)
-    (search needs)
-    (search needs)
-    (search needs)
+    (search needs) (search needs) (search needs) (search needs) (search needs)
     no-room
-    (search needs)
-    (search needs)
+    (search needs) (search needs)
     fits
-    (search needs)
-    (search needs)
-    (search needs)
+    (search needs) (search needs) (search needs)
     not-written
     (λ c. omega (arith, more (written c) .0 .inside, written c .before .before .before .before .loop .inv .2))
     nearer

@@ -1,7 +1,5 @@
-use borrow.Author.Needs.{needs}
-use Prim.Native.Nat.{_-_}
-use mathlib.Core.Path.{refl}
-use native.Mathlib.Omega.{arith}
+use Rattle.text.specs.Prelude.{_-_}
+use Rattle.text.proofs.Prelude.{needs, arith, refl}
 use Rattle.window.proofs.Moves.{Moving, past-end, at-start, next-moved, all-moved}
 use Rattle.window.proofs.keep_rest.Statement.{statement}
 use Rattle.window.proofs.keep_rest.Tie as tie
@@ -21,11 +19,7 @@ keep-rest-spec =
     (λ c. (omega arith, past-end _ _ (c .if1 .taken)))
     (search needs)
     (λ c. at-start (c .if1 .left))
-    (search needs)
-    (search needs)
-    (search needs)
-    (search needs)
-    (search needs)
+    (search needs) (search needs) (search needs) (search needs) (search needs)
     (λ c. next-moved (c .before .before .loop .inv) (omega arith))
     (search needs)
     (λ c. (refl, all-moved (c .before .loop .inv) (c .loop-test .left))))

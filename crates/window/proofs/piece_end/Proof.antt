@@ -1,4 +1,4 @@
-use borrow.Author.Needs.{needs}
+use Rattle.text.proofs.Prelude.{needs}
 use Rattle.window.specs.Piece.{pieceEnd}
 use Rattle.window.proofs.piece_end.Statement.{statement}
 use Rattle.window.proofs.piece_end.Tie as tie

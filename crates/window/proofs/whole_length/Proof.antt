@@ -1,4 +1,4 @@
-use borrow.Author.Needs.{needs}
+use Rattle.text.proofs.Prelude.{needs}
 use Rattle.window.proofs.Wholes.{NoneFrom, none-yet, none-at-all, last-here, none-here}
 use Rattle.window.proofs.whole_length.Statement.{statement}
 use Rattle.window.proofs.whole_length.Tie as tie
@@ -16,10 +16,8 @@ whole-length-spec =
     Inv-loop
     μ-loop
     (λ c. none-yet _)
-    (search needs)
-    (search needs)
+    (search needs) (search needs)
     (λ c. last-here (c .before .before .before .loop .inv) (c .before .before .loop-test .taken) (c .if1 .taken))
-    (search needs)
-    (search needs)
+    (search needs) (search needs)
     (λ c. none-here (c .before .before .before .loop .inv) (c .before .before .loop-test .taken) (c .if1 .left))
     (λ c. none-at-all (c .before .loop .inv) (c .loop-test .left)))

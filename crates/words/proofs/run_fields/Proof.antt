@@ -1,6 +1,5 @@
-use borrow.Author.Needs.{needs}
-use Prim.Native.Nat.{_-_, _≤_}
-use native.Mathlib.Omega.{arith}
+use Rattle.text.specs.Prelude.{_-_, _≤_}
+use Rattle.text.proofs.Prelude.{needs, arith}
 use Rattle.words.proofs.run_fields.Statement.{statement}
 use Rattle.words.proofs.run_fields.Tie as tie
 
@@ -13,20 +12,10 @@ pub run-fields-spec : {M : Type 1} → statement M
 run-fields-spec =
     tie.close
     (tie.spec
-    (search needs)
-    (search needs)
-    (search needs)
-    (search needs)
-    (search needs)
-    (search needs)
-    (search needs)
-    (search needs)
-    (search needs)
-    (search needs)
+    (search needs) (search needs) (search needs) (search needs) (search needs) (search needs) (search needs)
+    (search needs) (search needs) (search needs)
     (λ c. omega (arith, few c))
-    (search needs)
-    (search needs)
+    (search needs) (search needs)
     (λ c. let h = few (c .before) in search needs)
-    (search needs)
-    (search needs)
+    (search needs) (search needs)
     (search needs))

@@ -1,4 +1,4 @@
-use mathlib.Core.Path.{refl}
+use Rattle.text.proofs.Prelude.{refl}
 use Rattle.a_record.specs.ARecord.{aNew}
 use Rattle.a_record.proofs.ARecord.new.Statement.{statement}
 use Rattle.a_record.proofs.ARecord.new.Tie as tie

@@ -1,12 +1,5 @@
-use borrow.Author.Needs.{needs}
-use Prim.Native.Nat.{ℕ}
-use mathlib.Core.Path.{_≡_, sym, ap, _∙_}
-use mathlib.Core.Bool.{true, false}
-use mathlib.Core.List.{List}
-use denote.Ref.{now}
-use Rattle.text.specs.Res.{ok}
-use Rattle.text.proofs.Steps.{first, second, pass, stop}
-use Rattle.text.specs.Line.{cut}
+use Rattle.text.specs.Prelude.{ℕ, _≡_, true, false, List, now, ok, cut}
+use Rattle.text.proofs.Prelude.{needs, sym, ap, _∙_, pass, stop, first, second}
 use Rattle.field.specs.Field.{asciiIn}
 use Rattle.manufacturer.specs.Maker.{tripleMaker}
 use Rattle.a_record.specs.ARecord.{triple, longForm, readTriple}
@@ -30,22 +23,12 @@ unfolding readTriple asciiIn cut
 parse-triple-spec =
     tie.close
     (tie.spec
-    (search needs)
-    (search needs)
-    (search needs)
-    (search needs)
-    (search needs)
-    (search needs)
-    (search needs)
-    (search needs)
-    (search needs)
-    (search needs)
-    (λ c. first _ (long (search needs)) (pass _ (sym (c .before .before .is-ascii .ensures) ∙ c .before .if2 .taken) (ap ok (c .with-id .ensures ∙ rw (maker (search needs))))))
+    (search needs) (search needs) (search needs) (search needs) (search needs) (search needs) (search needs)
+    (search needs) (search needs) (search needs)
+    (λ c. first _ (long (search needs)) (pass _ (sym (c .before .before .is-ascii .ensures) ∙ c .before .if2 .taken)
+    (ap ok (c .with-id .ensures ∙ rw (maker (search needs))))))
     (λ c. first _ (long (search needs)) (stop _ (sym (c .before .is-ascii .ensures) ∙ c .if2 .left)))
-    (search needs)
-    (search needs)
-    (search needs)
-    (search needs)
-    (search needs)
-    (λ c. second _ (short (search needs)) (pass _ (sym (c .before .before .is-ascii2 .ensures) ∙ c .before .if3 .taken) (ap ok (c .with-id2 .ensures ∙ rw (maker (search needs))))))
+    (search needs) (search needs) (search needs) (search needs) (search needs)
+    (λ c. second _ (short (search needs)) (pass _ (sym (c .before .before .is-ascii2 .ensures) ∙ c .before .if3 .taken)
+    (ap ok (c .with-id2 .ensures ∙ rw (maker (search needs))))))
     (λ c. second _ (short (search needs)) (stop _ (sym (c .before .is-ascii2 .ensures) ∙ c .if3 .left))))

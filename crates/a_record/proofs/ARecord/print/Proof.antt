@@ -1,10 +1,7 @@
-use borrow.Author.Needs.{needs}
-use mathlib.Core.Path.{_≡_, refl}
-use denote.Ref.{now}
-use Rattle.text.specs.Res.{Res, ok, no}
+use Rattle.text.specs.Prelude.{_≡_, now, Res, ok, no}
+use Rattle.text.proofs.Prelude.{needs, refl, came, on, off}
 use Rattle.part.specs.Part.{findPart, findMaybe, partText, maybeText, textOf, foundRes}
 use Rattle.part.specs.declared.Part.{Part}
-use Rattle.text.proofs.Steps.{came, on, off}
 use Rattle.part.proofs.Parts.{text-found}
 use Rattle.print.proofs.Printing.{refused, no-room, written}
 use Rattle.a_record.specs.ARecord.{aText}
@@ -32,7 +29,8 @@ no-rest c = came foundRes (c .no-rest .given .1) (c .before .before .find2 .ensu
 
 full : tie.Need-returns
 unfolding aText partText maybeText
-full c = no-room (on _ (text-found _ (id (search needs))) (on _ (text-found _ (rest (search needs))) refl)) (c .before .before .put-piece .ensures) (search needs)
+full c = no-room (on _ (text-found _ (id (search needs))) (on _ (text-found _ (rest (search needs))) refl))
+    (c .before .before .put-piece .ensures) (search needs)
 
 fits : tie.Need-returns-4
 unfolding aText partText maybeText
@@ -48,13 +46,7 @@ unfolding aText partText maybeText textOf
 print-spec =
     tie.close
     (tie.spec
-    (search needs)
-    (search needs)
-    (search needs)
-    (search needs)
-    (search needs)
-    (search needs)
-    (search needs)
+    (search needs) (search needs) (search needs) (search needs) (search needs) (search needs) (search needs)
     (search needs)
     full
     (search needs)

@@ -1,4 +1,4 @@
-use borrow.Author.Needs.{needs}
+use Rattle.text.proofs.Prelude.{needs}
 use Rattle.put.proofs.Writing.{then}
 use Rattle.b_record.specs.BRecord.{bBody}
 use Rattle.b_record.proofs.BRecord.put_piece.Statement.{statement}
@@ -6,4 +6,5 @@ use Rattle.b_record.proofs.BRecord.put_piece.Tie as tie
 
 pub put-piece-spec : {M : Type 1} → statement M
 unfolding bBody
-put-piece-spec = tie.close (tie.spec (search needs) (search needs) (search needs) (search needs) (search needs) (λ c. search (then)))
+put-piece-spec =
+    tie.close (tie.spec (search needs) (search needs) (search needs) (search needs) (search needs) (λ c. search (then)))

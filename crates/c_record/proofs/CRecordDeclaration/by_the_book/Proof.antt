@@ -1,7 +1,5 @@
-use borrow.Author.Needs.{needs}
-use mathlib.Core.Path.{_≡_, sym, _∙_}
-use mathlib.Core.Bool.{true}
-use Rattle.text.proofs.Steps.{fails, holds}
+use Rattle.text.specs.Prelude.{_≡_, true}
+use Rattle.text.proofs.Prelude.{needs, sym, _∙_, holds, fails}
 use Rattle.datetime.specs.Date.{dateBook}
 use Rattle.datetime.specs.Time.{timeBook}
 use Rattle.c_record.specs.CRecord.{declarationBook}
@@ -23,9 +21,7 @@ unfolding declarationBook
 by-the-book-spec =
     tie.close
     (tie.spec
-    (search needs)
-    (search needs)
-    (search needs)
+    (search needs) (search needs) (search needs)
     (λ c. sym (holds (date (search needs)) (holds (time (search needs)) (sym (c .flight-by-the-book .ensures)))))
     (λ c. sym (holds (date (search needs)) (fails _ (sym (c .before .by-the-book2 .ensures) ∙ c .if2 .left))))
     (λ c. sym (fails _ (sym (c .before .by-the-book .ensures) ∙ c .if1 .left))))

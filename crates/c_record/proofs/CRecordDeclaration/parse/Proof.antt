@@ -1,18 +1,12 @@
-use borrow.Author.Needs.{needs}
-use Prim.Native.Nat.{ℕ}
-use mathlib.Core.Path.{_≡_}
-use mathlib.Core.Bool.{true}
-use mathlib.Core.List.{List}
-use denote.Ref.{now}
+use Rattle.text.specs.Prelude.{ℕ, code, _≡_, List, length, now, Res, ok, no, guard, _≤?_, _=?_, byte, cut, columns}
+use Rattle.text.proofs.Prelude.{needs, came, on, off, pass, stop, yes≤, no≤, yes=, no=, so-true, so-false}
 use mir.Syntax.{w8}
 use mir.Val.{toZ, ofZ}
-use lib.ListN.{length}
-use Rattle.text.specs.Res.{ok, no, _≤?_}
-use Rattle.text.proofs.Steps.{came, on, off, pass, stop, yes≤, no≤, so-true, so-false}
-use Rattle.text.specs.Line.{cut, columns}
-use Rattle.field.specs.Field.{isAscii, asciiIn}
+use Rattle.field.specs.Field.{asciiIn}
 use Rattle.datetime.specs.Date.{readDate, dateRes}
 use Rattle.datetime.specs.Time.{readTime, timeRes}
+use Rattle.text.specs.declared.refusal.Refusal.the-variants.{Syntax}
+use Rattle.c_record.specs.declared.CRecordDeclaration.{CRecordDeclaration}
 use Rattle.c_record.specs.CRecord.{readFlight, readTask, readDeclaration, flightRes, taskRes}
 use Rattle.c_record.proofs.CRecordDeclaration.parse.Statement.{statement}
 use Rattle.c_record.proofs.CRecordDeclaration.parse.Tie as tie
@@ -20,12 +14,13 @@ use Rattle.c_record.proofs.CRecordDeclaration.parse.Tie as tie
 abbrev line : tie.Start → List ℕ
 line b = now (b .args .line)
 
-long : (c : tie.Else1) → (25 ≤? length (line (search needs))) ≡ true
-long c = yes≤ (c .if1 .left)
-
-ascii : (c : tie.Else2) → isAscii (cut 0 25 (line (search needs))) ≡ true
-unfolding cut
-ascii c = so-true (c .before .is-ascii .ensures) (c .if2 .left)
+-- past the tests of length, letter and ASCII
+past : (c : tie.Else3) {r x : Res CRecordDeclaration} → x ≡ r →
+    let s = line (search needs) in x ≡ guard (25 ≤? length s) Syntax
+    (guard (byte 0 s =? code "C") Syntax (asciiIn (cut 0 25 s) r))
+unfolding asciiIn cut
+past c h = pass _ (yes≤ (search needs))
+    (pass _ (yes= (search needs)) (pass _ (so-true (c .before .is-ascii .ensures) (c .if3 .left)) h))
 
 date : (c : tie.After-day) → ok (c .day .given .0 .0) ≡ columns 1 7 readDate (line (search needs))
 unfolding columns cut
@@ -69,34 +64,22 @@ parse-spec =
     (tie.spec
     (λ c. stop _ (no≤ (search needs)))
     (search needs)
-    (search needs)
-    (search needs)
-    (search needs)
-    (λ c. pass _ (long (search needs)) (stop _ (so-false (c .before .is-ascii .ensures) (c .if2 .taken))))
-    (search needs)
-    (search needs)
-    (search needs)
-    (search needs)
-    (search needs)
-    (search needs)
-    (λ c. pass _ (long (search needs)) (pass _ (ascii (search needs)) (off _ (no-date (search needs)))))
-    (search needs)
-    (search needs)
-    (search needs)
-    (search needs)
-    (search needs)
-    (search needs)
-    (λ c. pass _ (long (search needs)) (pass _ (ascii (search needs)) (on _ (date (search needs)) (off _ (no-time (search needs))))))
-    (search needs)
-    (search needs)
-    (search needs)
-    (search needs)
-    (search needs)
-    (search needs)
-    (λ c. pass _ (long (search needs)) (pass _ (ascii (search needs)) (on _ (date (search needs)) (on _ (time (search needs)) (off _ (no-flight (search needs)))))))
-    (search needs)
-    (search needs)
-    (search needs)
-    (search needs)
-    (λ c. pass _ (long (search needs)) (pass _ (ascii (search needs)) (on _ (date (search needs)) (on _ (time (search needs)) (on _ (flight (search needs)) (on _ (task (search needs)) (rw (c .before .from-column .ensures, count c))))))))
-    (λ c. pass _ (long (search needs)) (pass _ (ascii (search needs)) (on _ (date (search needs)) (on _ (time (search needs)) (on _ (flight (search needs)) (off _ (no-task (search needs)))))))))
+    (λ c. pass _ (yes≤ (search needs)) (stop _ (no= (search needs))))
+    (search needs) (search needs) (search needs) (search needs)
+    (λ c. pass _ (yes≤ (search needs))
+    (pass _ (yes= (search needs)) (stop _ (so-false (c .before .is-ascii .ensures) (c .if3 .taken)))))
+    (search needs) (search needs) (search needs) (search needs) (search needs) (search needs)
+    (λ c. past (search needs) (off _ (no-date (search needs))))
+    (search needs) (search needs) (search needs) (search needs) (search needs) (search needs)
+    (λ c. past (search needs) (on _ (date (search needs)) (off _ (no-time (search needs)))))
+    (search needs) (search needs) (search needs) (search needs) (search needs) (search needs)
+    (λ c. past (search needs)
+    (on _ (date (search needs)) (on _ (time (search needs)) (off _ (no-flight (search needs))))))
+    (search needs) (search needs) (search needs) (search needs)
+    (λ c. past (search needs)
+    (on _ (date (search needs))
+    (on _ (time (search needs))
+    (on _ (flight (search needs)) (on _ (task (search needs)) (rw (c .before .from-column .ensures, count c)))))))
+    (λ c. past (search needs)
+    (on _ (date (search needs))
+    (on _ (time (search needs)) (on _ (flight (search needs)) (off _ (no-task (search needs))))))))

@@ -1,5 +1,5 @@
-use borrow.Author.Needs.{needs}
-use mathlib.Core.Path.{_≡_}
+use Rattle.text.specs.Prelude.{_≡_}
+use Rattle.text.proofs.Prelude.{needs}
 use mir.Syntax.{w8}
 use mir.Val.{toZ, ofZ}
 use Rattle.put.proofs.Writing.{then}
@@ -17,7 +17,9 @@ count c = search needs
 
 returns : tie.Need-returns
 unfolding taskText
-returns c = let first : tie.After-put-flight = search needs in rw (← count (search needs)) (then (first .put-flight .ensures) (search (then)))
+returns c = let first : tie.After-put-flight = search needs in rw (← count (search needs))
+    (then (first .put-flight .ensures) (search (then)))
 
 pub put-task-spec : {M : Type 1} → statement M
-put-task-spec = tie.close (tie.spec (search needs) (search needs) (search needs) (search needs) (search needs) (search needs) returns)
+put-task-spec = tie.close (tie.spec (search needs) (search needs) (search needs) (search needs) (search needs)
+    (search needs) returns)

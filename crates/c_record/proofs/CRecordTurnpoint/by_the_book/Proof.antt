@@ -1,4 +1,4 @@
-use borrow.Author.Needs.{needs}
+use Rattle.text.proofs.Prelude.{needs}
 use Rattle.c_record.specs.CRecord.{turnpointBook}
 use Rattle.c_record.proofs.CRecordTurnpoint.by_the_book.Statement.{statement}
 use Rattle.c_record.proofs.CRecordTurnpoint.by_the_book.Tie as tie

@@ -1,12 +1,5 @@
-use borrow.Author.Needs.{needs}
-use Prim.Native.Nat.{ℕ}
-use mathlib.Core.Path.{_≡_}
-use mathlib.Core.Bool.{true}
-use mathlib.Core.List.{List}
-use denote.Ref.{now}
-use Rattle.text.specs.Res.{ok, no}
-use Rattle.text.proofs.Steps.{came, on, off, pass, stop, yes≤, no≤, so-true, so-false}
-use Rattle.text.specs.Line.{cut, columns}
+use Rattle.text.specs.Prelude.{ℕ, _≡_, true, List, now, ok, no, cut, columns}
+use Rattle.text.proofs.Prelude.{needs, came, on, off, pass, stop, yes≤, no≤, yes=, no=, so-true, so-false}
 use Rattle.field.specs.Field.{isAscii, asciiIn}
 use Rattle.coord.specs.Coord.{readPosition, positionRes}
 use Rattle.c_record.specs.CRecord.{readTurnpoint}
@@ -16,7 +9,7 @@ use Rattle.c_record.proofs.CRecordTurnpoint.parse.Tie as tie
 abbrev line : tie.Start → List ℕ
 line b = now (b .args .line)
 
-ascii : (c : tie.Else2) → isAscii (cut 0 18 (line (search needs))) ≡ true
+ascii : (c : tie.Else3) → isAscii (cut 0 18 (line (search needs))) ≡ true
 unfolding cut
 ascii c = search (so-true)
 
@@ -36,16 +29,12 @@ parse-spec =
     (tie.spec
     (λ c. stop _ (no≤ (search needs)))
     (search needs)
-    (search needs)
-    (search needs)
-    (search needs)
-    (λ c. pass _ (yes≤ (search needs)) (stop _ (search (so-false))))
-    (search needs)
-    (search needs)
-    (search needs)
-    (search needs)
-    (search needs)
-    (search needs)
-    (search needs)
-    (λ c. pass _ (yes≤ (search needs)) (pass _ (ascii (search needs)) (on _ (position (search needs)) (rw (c .from-column .ensures)))))
-    (λ c. pass _ (yes≤ (search needs)) (pass _ (ascii (search needs)) (off _ (no-position (search needs))))))
+    (λ c. pass _ (yes≤ (search needs)) (stop _ (no= (search needs))))
+    (search needs) (search needs) (search needs) (search needs)
+    (λ c. pass _ (yes≤ (search needs)) (pass _ (yes= (search needs)) (stop _ (search (so-false)))))
+    (search needs) (search needs) (search needs) (search needs) (search needs) (search needs) (search needs)
+    (λ c. pass _ (yes≤ (search needs))
+    (pass _ (yes= (search needs))
+    (pass _ (ascii (search needs)) (on _ (position (search needs)) (rw (c .from-column .ensures))))))
+    (λ c. pass _ (yes≤ (search needs))
+    (pass _ (yes= (search needs)) (pass _ (ascii (search needs)) (off _ (no-position (search needs)))))))

@@ -1,4 +1,4 @@
-use borrow.Author.Needs.{needs}
+use Rattle.text.proofs.Prelude.{needs}
 use Rattle.put.proofs.Writing.{then}
 use Rattle.c_record.specs.CRecord.{turnpointBody}
 use Rattle.c_record.proofs.CRecordTurnpoint.put_piece.Statement.{statement}

@@ -1,5 +1,5 @@
-use mathlib.Core.Path.{refl}
-use Rattle.text.specs.Res.{_≤?_}
+use Rattle.text.specs.Prelude.{_≤?_}
+use Rattle.text.proofs.Prelude.{refl}
 use Rattle.coord.specs.Coord.{coordBook}
 use Rattle.coord.proofs.RawCoord.by_the_book.Statement.{statement}
 use Rattle.coord.proofs.RawCoord.by_the_book.Tie as tie

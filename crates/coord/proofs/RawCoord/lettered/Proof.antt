@@ -1,5 +1,4 @@
-use borrow.Author.Needs.{needs}
-use Rattle.text.proofs.Steps.{came, on, off}
+use Rattle.text.proofs.Prelude.{needs, came, on, off}
 use Rattle.coord.specs.Coord.{compassRes, lettered}
 use Rattle.coord.proofs.RawCoord.lettered.Statement.{statement}
 use Rattle.coord.proofs.RawCoord.lettered.Tie as tie
@@ -9,9 +8,7 @@ unfolding lettered
 lettered-spec =
     tie.close
     (tie.spec
-    (search needs)
-    (search needs)
-    (search needs)
-    (search needs)
-    (λ c. on _ (came compassRes (c .before .before .sign .given .1) (c .before .before .before .before .sign-of .ensures)) (c .within .ensures))
+    (search needs) (search needs) (search needs) (search needs)
+    (λ c. on _ (came compassRes (c .before .before .sign .given .1)
+    (c .before .before .before .before .sign-of .ensures)) (c .within .ensures))
     (λ c. off _ (came compassRes (c .before .no-sign .given .1) (c .before .before .before .sign-of .ensures))))

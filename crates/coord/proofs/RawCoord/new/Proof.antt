@@ -1,6 +1,4 @@
-use borrow.Author.Needs.{needs}
-use mathlib.Core.Path.{refl, sym, _∙_}
-use Rattle.text.proofs.Steps.{pass, stop, yes≤, no≤, fails, holds}
+use Rattle.text.proofs.Prelude.{needs, refl, sym, _∙_, pass, stop, yes≤, no≤, holds, fails}
 use Rattle.coord.specs.Coord.{newCoord}
 use Rattle.coord.proofs.RawCoord.new.Statement.{statement}
 use Rattle.coord.proofs.RawCoord.new.Tie as tie
@@ -11,7 +9,9 @@ new-spec =
     tie.close
     (tie.spec
     (search needs)
-    (λ c. pass _ (holds (yes≤ (search needs)) (holds (yes≤ (search needs)) (sym (c .before .one-of .ensures) ∙ c .if3 .taken))) refl)
-    (λ c. stop _ (holds (yes≤ (search needs)) (holds (yes≤ (search needs)) (sym (c .before .one-of .ensures) ∙ c .if3 .left))))
+    (λ c. pass _ (holds (yes≤ (search needs))
+    (holds (yes≤ (search needs)) (sym (c .before .one-of .ensures) ∙ c .if3 .taken))) refl)
+    (λ c. stop _ (holds (yes≤ (search needs))
+    (holds (yes≤ (search needs)) (sym (c .before .one-of .ensures) ∙ c .if3 .left))))
     (λ c. stop _ (holds (yes≤ (search needs)) (fails _ (no≤ (search needs)))))
     (λ c. stop _ (fails _ (no≤ (search needs)))))

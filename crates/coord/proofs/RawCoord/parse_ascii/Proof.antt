@@ -1,12 +1,6 @@
-use borrow.Author.Needs.{needs}
-use Prim.Native.Nat.{ℕ, _+_}
-use mathlib.Core.Path.{_≡_}
-use mathlib.Core.List.{List}
-use denote.Ref.{now}
-use Rattle.text.specs.Res.{Res, ok, no}
-use Rattle.text.specs.Number.{readNat, u8Res, u16Res}
-use Rattle.text.proofs.Steps.{came, on, off, pass, stop, yes=, no=}
-use Rattle.text.specs.Line.{cut, columns}
+use Rattle.text.specs.Prelude.{ℕ, _+_, _≡_, List, now, Res, ok, no, cut, columns, readNat}
+use Rattle.text.proofs.Prelude.{needs, came, on, off, pass, stop, yes=, no=}
+use Rattle.text.specs.Number.{u8Res, u16Res}
 use Rattle.field.specs.Field.{sized}
 use Rattle.coord.specs.Coord.{readCoord}
 use Rattle.coord.proofs.RawCoord.parse_ascii.Statement.{statement}
@@ -45,21 +39,10 @@ parse-ascii-spec =
     (tie.spec
     (search needs)
     (λ c. stop _ (no= (search needs)))
-    (search needs)
-    (search needs)
-    (search needs)
-    (search needs)
-    (search needs)
-    (search needs)
+    (search needs) (search needs) (search needs) (search needs) (search needs) (search needs)
     (λ c. pass _ (yes= (search needs)) (off _ (no-degrees (search needs))))
-    (search needs)
-    (search needs)
-    (search needs)
-    (search needs)
-    (search needs)
-    (search needs)
-    (search needs)
+    (search needs) (search needs) (search needs) (search needs) (search needs) (search needs) (search needs)
     (λ c. pass _ (yes= (search needs)) (on _ (degrees (search needs)) (off _ (no-thousandths (search needs)))))
-    (search needs)
-    (search needs)
-    (λ c. pass _ (yes= (search needs)) (on _ (degrees (search needs)) (on _ (thousandths (search needs)) (c .lettered .ensures)))))
+    (search needs) (search needs)
+    (λ c. pass _ (yes= (search needs))
+    (on _ (degrees (search needs)) (on _ (thousandths (search needs)) (c .lettered .ensures)))))

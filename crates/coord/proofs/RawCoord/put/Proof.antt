@@ -1,4 +1,4 @@
-use borrow.Author.Needs.{needs}
+use Rattle.text.proofs.Prelude.{needs}
 use Rattle.put.proofs.Writing.{then}
 use Rattle.coord.specs.Coord.{coordText}
 use Rattle.coord.proofs.RawCoord.put.Statement.{statement}
@@ -11,4 +11,5 @@ returns c = let l : tie.After-letter = search needs in rw (← l .letter .ensure
 
 pub put-spec : {M : Type 1} → statement M
 put-spec =
-    tie.close (tie.spec (search needs) (search needs) (search needs) (search needs) (search needs) (search needs) (search needs) returns)
+    tie.close (tie.spec (search needs) (search needs) (search needs) (search needs) (search needs) (search needs)
+    (search needs) returns)

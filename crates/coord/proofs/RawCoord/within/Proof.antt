@@ -1,6 +1,4 @@
-use borrow.Author.Needs.{needs}
-use mathlib.Core.Path.{refl}
-use Rattle.text.proofs.Steps.{pass, stop, yes≤, no≤, fails, holds}
+use Rattle.text.proofs.Prelude.{needs, refl, pass, stop, yes≤, no≤, holds, fails}
 use Rattle.coord.specs.Coord.{coordOf}
 use Rattle.coord.proofs.RawCoord.within.Statement.{statement}
 use Rattle.coord.proofs.RawCoord.within.Tie as tie

@@ -1,7 +1,5 @@
-use borrow.Author.Needs.{needs}
-use mathlib.Core.Path.{_≡_, refl, sym, _∙_}
-use mathlib.Core.Bool.{true, false}
-use Rattle.text.proofs.Steps.{pass, stop, yes≤, no≤, fails, holds}
+use Rattle.text.specs.Prelude.{_≡_, true, false}
+use Rattle.text.proofs.Prelude.{needs, refl, sym, _∙_, pass, stop, yes≤, no≤, holds, fails}
 use Rattle.datetime.specs.Date.{newDate, dateBook, dated}
 use Rattle.datetime.proofs.Date.from_dmy.Statement.{statement}
 use Rattle.datetime.proofs.Date.from_dmy.Tie as tie

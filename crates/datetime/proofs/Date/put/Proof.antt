@@ -1,4 +1,4 @@
-use borrow.Author.Needs.{needs}
+use Rattle.text.proofs.Prelude.{needs}
 use Rattle.datetime.specs.Date.{dateText}
 use Rattle.datetime.proofs.Date.put.Statement.{statement}
 use Rattle.datetime.proofs.Date.put.Tie as tie

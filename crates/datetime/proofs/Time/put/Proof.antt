@@ -1,4 +1,4 @@
-use borrow.Author.Needs.{needs}
+use Rattle.text.proofs.Prelude.{needs}
 use Rattle.datetime.specs.Time.{timeText}
 use Rattle.datetime.proofs.Time.put.Statement.{statement}
 use Rattle.datetime.proofs.Time.put.Tie as tie

@@ -1,4 +1,4 @@
-use borrow.Author.Needs.{needs}
+use Rattle.text.proofs.Prelude.{needs}
 use Rattle.datetime.specs.Time.{secondsOf}
 use Rattle.datetime.proofs.Time.seconds_since_midnight.Statement.{statement}
 use Rattle.datetime.proofs.Time.seconds_since_midnight.Tie as tie
@@ -6,4 +6,5 @@ use Rattle.datetime.proofs.Time.seconds_since_midnight.Tie as tie
 pub seconds-since-midnight-spec : {M : Type 1} → statement M
 unfolding secondsOf
 seconds-since-midnight-spec =
-    tie.close (tie.spec (search needs) (search needs) (search needs) (search needs) (search needs) (search needs) (search needs) (search needs))
+    tie.close (tie.spec (search needs) (search needs) (search needs) (search needs) (search needs) (search needs)
+    (search needs) (search needs))

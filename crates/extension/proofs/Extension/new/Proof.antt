@@ -1,7 +1,4 @@
-use borrow.Author.Needs.{needs}
-use native.Mathlib.Omega.{arith}
-use mathlib.Core.Path.{refl}
-use Rattle.text.proofs.Steps.{pass, stop, yes≤, no≤, fails, holds}
+use Rattle.text.proofs.Prelude.{needs, arith, refl, pass, stop, yes≤, no≤, holds, fails}
 use Rattle.extension.specs.Extension.{newExtension}
 use Rattle.extension.proofs.Extension.new.Statement.{statement}
 use Rattle.extension.proofs.Extension.new.Tie as tie

@@ -1,13 +1,6 @@
-use borrow.Author.Needs.{needs}
-use Prim.Native.Nat.{ℕ}
-use mathlib.Core.Path.{_≡_, refl}
-use mathlib.Core.List.{List}
-use lib.ListN.{length}
-use denote.Ref.{now}
-use Rattle.text.specs.Res.{ok, no}
-use Rattle.text.specs.Number.{readNat, u8Res}
-use Rattle.text.proofs.Steps.{came, on, off, pass, stop, yes=, no=, yes≤, no≤}
-use Rattle.text.specs.Line.{cut, columns}
+use Rattle.text.specs.Prelude.{ℕ, _≡_, List, length, now, ok, no, cut, columns, readNat}
+use Rattle.text.proofs.Prelude.{needs, refl, came, on, off, pass, stop, yes≤, no≤, yes=, no=}
+use Rattle.text.specs.Number.{u8Res}
 use Rattle.extension.specs.Extension.{readDefinition, readExtension}
 use Rattle.extension.proofs.Extension.parse.Statement.{statement}
 use Rattle.extension.proofs.Extension.parse.Tie as tie
@@ -40,22 +33,12 @@ parse-spec =
     tie.close
     (tie.spec
     (λ c. stop _ (no= (search needs)))
-    (search needs)
-    (search needs)
-    (search needs)
-    (search needs)
-    (search needs)
-    (search needs)
+    (search needs) (search needs) (search needs) (search needs) (search needs) (search needs)
     (λ c. pass _ (yes= (seven (search needs))) (off _ (no-start (search needs))))
-    (search needs)
-    (search needs)
-    (search needs)
-    (search needs)
-    (search needs)
-    (search needs)
+    (search needs) (search needs) (search needs) (search needs) (search needs) (search needs)
     (λ c. pass _ (yes= (seven (search needs))) (on _ (start (search needs)) (off _ (no-end (search needs)))))
-    (λ c. pass _ (yes= (seven (search needs))) (on _ (start (search needs)) (on _ (end (search needs)) (stop _ (no≤ (search needs))))))
-    (search needs)
-    (search needs)
-    (search needs)
-    (λ c. pass _ (yes= (seven (search needs))) (on _ (start (search needs)) (on _ (end (search needs)) (pass _ (yes≤ (search needs)) refl)))))
+    (λ c. pass _ (yes= (seven (search needs)))
+    (on _ (start (search needs)) (on _ (end (search needs)) (stop _ (no≤ (search needs))))))
+    (search needs) (search needs) (search needs)
+    (λ c. pass _ (yes= (seven (search needs)))
+    (on _ (start (search needs)) (on _ (end (search needs)) (pass _ (yes≤ (search needs)) refl)))))

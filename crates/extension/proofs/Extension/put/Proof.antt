@@ -1,4 +1,4 @@
-use borrow.Author.Needs.{needs}
+use Rattle.text.proofs.Prelude.{needs}
 use Rattle.put.proofs.Writing.{then}
 use Rattle.extension.specs.Extension.{extensionText}
 use Rattle.extension.proofs.Extension.put.Statement.{statement}
@@ -6,4 +6,5 @@ use Rattle.extension.proofs.Extension.put.Tie as tie
 
 pub put-spec : {M : Type 1} → statement M
 unfolding extensionText
-put-spec = tie.close (tie.spec (search needs) (search needs) (search needs) (search needs) (search needs) (search needs) (λ c. search (then)))
+put-spec = tie.close (tie.spec (search needs) (search needs) (search needs) (search needs) (search needs) (search needs)
+    (λ c. search (then)))

@@ -1,4 +1,4 @@
-use borrow.Author.Needs.{needs}
+use Rattle.text.proofs.Prelude.{needs}
 use Rattle.put.proofs.Writing.{then}
 use Rattle.field.specs.Field.{mnemonicText}
 use Rattle.field.proofs.Mnemonic.put.Statement.{statement}

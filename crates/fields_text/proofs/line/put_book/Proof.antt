@@ -1,11 +1,6 @@
-use borrow.Author.Needs.{needs}
-use mathlib.Core.Path.{_≡_, refl, sym, _∙_}
-use mathlib.Core.Bool.{true}
-use mathlib.Core.List.{[]}
-use native.Mathlib.Omega.{arith}
-use Rattle.text.specs.Res.{_=?_}
-use Rattle.text.proofs.Steps.{first, second, yes=, no=}
-use Rattle.put.proofs.Writing.{nothing}
+use Rattle.text.specs.Prelude.{_≡_, true, [], _=?_}
+use Rattle.text.proofs.Prelude.{needs, arith, refl, sym, _∙_, first, second, yes=, no=}
+use Rattle.put.proofs.Writing.{wrote-nothing}
 use Rattle.records.specs.Record.{acceptedAs}
 use Rattle.record_text.specs.Piece.{byteShown}
 use Rattle.fields_text.specs.Line.{bookShown}
@@ -33,11 +28,8 @@ put-book-spec =
     tie.close
     (tie.spec
     (search needs)
-    (λ c. rw (← unread c) (nothing _ _ (omega arith) (omega arith)))
-    (search needs)
-    (search needs)
-    (search needs)
-    (λ c. rw (← yes (c .before .before .before .before)) (c .before .before .put-raw .ensures))
-    (search needs)
-    (search needs)
-    (λ c. rw (← no (c .before .before .before .before)) (c .before .before .put-raw2 .ensures)))
+    (λ c. rw (← unread c) (wrote-nothing _ _ (omega arith) (omega arith)))
+    (search needs) (search needs) (search needs)
+    (λ c. rw (← yes (c .before .before .before .before)) (c .before .before .show-byte .ensures))
+    (search needs) (search needs)
+    (λ c. rw (← no (c .before .before .before .before)) (c .before .before .show-byte2 .ensures)))

@@ -1,6 +1,5 @@
-use borrow.Author.Needs.{needs}
-use native.Mathlib.Omega.{arith}
-use Rattle.put.proofs.Writing.{nothing}
+use Rattle.text.proofs.Prelude.{needs, arith}
+use Rattle.put.proofs.Writing.{wrote-nothing}
 use Rattle.fields_text.specs.Line.{fieldsShown}
 use Rattle.fields_text.proofs.line.put_fields.Statement.{statement}
 use Rattle.fields_text.proofs.line.put_fields.Tie as tie
@@ -10,9 +9,6 @@ unfolding fieldsShown
 put-fields-spec =
     tie.close
     (tie.spec
-    (search needs)
-    (search needs)
-    (search needs)
-    (search needs)
+    (search needs) (search needs) (search needs) (search needs)
     (λ c. rw (c .before .before .before .before .before .reading .given .1) (c .before .before .put-seen .ensures))
-    (λ c. rw (c .enum-told .given .1) (nothing _ _ (omega arith) (omega arith))))
+    (λ c. rw (c .enum-told .given .1) (wrote-nothing _ _ (omega arith) (omega arith))))

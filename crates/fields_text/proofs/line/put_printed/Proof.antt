@@ -1,4 +1,4 @@
-use borrow.Author.Needs.{needs}
+use Rattle.text.proofs.Prelude.{needs}
 use Rattle.put.proofs.Writing.{then}
 use Rattle.fields_text.specs.Line.{printedShown}
 use Rattle.fields_text.proofs.line.put_printed.Statement.{statement}

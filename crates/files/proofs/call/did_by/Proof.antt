@@ -1,7 +1,5 @@
-use mathlib.Core.Path.{_≡_}
-use mathlib.Core.Bool.{true, false}
-use native.Mathlib.Omega.{arith}
-use lib.IntN.{pos}
+use Rattle.text.specs.Prelude.{_≡_, true, false, pos}
+use Rattle.text.proofs.Prelude.{arith}
 use lib.Signed.{ltZ}
 use mir.Syntax.{w64}
 use mir.Val.{toZ, ofZ}

@@ -1,6 +1,4 @@
-use borrow.Author.Needs.{needs}
-use mathlib.Core.Path.{refl, sym, _∙_}
-use Rattle.text.proofs.Steps.{never}
+use Rattle.text.proofs.Prelude.{needs, refl, sym, _∙_, never}
 use Rattle.files.proofs.input.open.Statement.{statement}
 use Rattle.files.proofs.input.open.Tie as tie
 

@@ -1,9 +1,5 @@
-use borrow.Author.Needs.{needs}
-use Prim.Native.Nat.{ℕ, _+_, _-_, _≤_}
-use native.Mathlib.Omega.{arith}
-use denote.Ref.{now}
-use lib.ListN.{length}
-use Rattle.text.specs.Word.{largest}
+use Rattle.text.specs.Prelude.{ℕ, _+_, _-_, _≤_, length, now, largest}
+use Rattle.text.proofs.Prelude.{needs, arith}
 use Rattle.files.proofs.Filling.{Filling, at-start, full, ended, failed, next}
 use Rattle.files.proofs.input.read_on.Statement.{statement}
 use Rattle.files.proofs.input.read_on.Tie as tie

@@ -1,7 +1,5 @@
-use borrow.Author.Needs.{needs}
-use mathlib.Core.Path.{refl}
-use mathlib.Core.Bool.{true, false}
-use Rattle.text.specs.Res.{pick}
+use Rattle.text.specs.Prelude.{true, false, pick}
+use Rattle.text.proofs.Prelude.{needs, refl}
 use Rattle.files.proofs.outcome.write_text.Statement.{statement}
 use Rattle.files.proofs.outcome.write_text.Tie as tie
 
@@ -17,13 +15,7 @@ pub write-text-spec : {M : Type 1} → statement M
 write-text-spec =
     tie.close
     (tie.spec
-    (search needs)
-    (search needs)
-    (search needs)
-    (search needs)
-    (search needs)
+    (search needs) (search needs) (search needs) (search needs) (search needs)
     terminal
-    (search needs)
-    (search needs)
-    (search needs)
+    (search needs) (search needs) (search needs)
     other)

@@ -1,12 +1,6 @@
-use borrow.Author.Needs.{needs}
-use Prim.Native.Nat.{_+_, _-_, _≤_}
-use mathlib.Core.Path.{_≡_, refl}
-use native.Mathlib.Omega.{arith}
-use denote.Ref.{now}
-use lib.ListN.{length}
-use Rattle.text.specs.Word.{largest}
-use Rattle.files.specs.declared.output.Written.{Written}
-use Rattle.files.specs.declared.output.Written.the-variants.{All}
+use Rattle.text.specs.Prelude.{_+_, _-_, _≤_, _≡_, length, now, largest}
+use Rattle.text.proofs.Prelude.{needs, arith, refl}
+use Rattle.files.specs.declared.{output.Written.Written, output.Written.the-variants.All}
 use Rattle.files.proofs.output.write_all.Statement.{statement}
 use Rattle.files.proofs.output.write_all.Tie as tie
 

@@ -1,8 +1,5 @@
-use borrow.Author.Needs.{needs}
-use Prim.Native.Nat.{_-_}
-use native.Mathlib.Omega.{arith}
-use denote.Ref.{now}
-use lib.ListN.{length}
+use Rattle.text.specs.Prelude.{_-_, length, now}
+use Rattle.text.proofs.Prelude.{needs, arith}
 use mir.Syntax.{w64}
 use mir.Facts.{toZ-ofZ}
 use borrow.Rule.Slice.PartMut.{midOf, mid-len}
@@ -24,10 +21,5 @@ pub write-some-spec : {M : Type 1} → statement M
 write-some-spec =
     tie.close
     (tie.spec
-    (search needs)
-    (search needs)
-    (search needs)
-    (search needs)
-    (search needs)
-    (search needs)
+    (search needs) (search needs) (search needs) (search needs) (search needs) (search needs)
     returns)

@@ -1,7 +1,5 @@
-use borrow.Author.Needs.{needs}
-use Prim.Native.Nat.{_-_}
-use native.Mathlib.Omega.{arith}
-use lib.ListN.{length}
+use Rattle.text.specs.Prelude.{_-_, length}
+use Rattle.text.proofs.Prelude.{needs, arith}
 use Rattle.files.proofs.Showing.{Showing, at-start, next-shown, all-shown}
 use Rattle.files.proofs.terminal.make_visible.Statement.{statement}
 use Rattle.files.proofs.terminal.make_visible.Tie as tie
@@ -28,10 +26,7 @@ make-visible-spec =
     Inv-loop
     μ-loop
     (λ c. at-start)
-    (search needs)
-    (search needs)
-    (search needs)
-    (search needs)
+    (search needs) (search needs) (search needs) (search needs)
     nearer
     next
     (λ c. c .before .loop .inv .long)

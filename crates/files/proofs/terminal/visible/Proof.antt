@@ -1,7 +1,5 @@
-use mathlib.Core.Path.{refl, sym}
-use native.Mathlib.Omega.{arith}
-use Rattle.text.specs.Res.{_∨?_}
-use Rattle.text.proofs.Steps.{first, second, yes=, no=, yes≤, no≤, holds, fails}
+use Rattle.text.specs.Prelude.{_∨?_}
+use Rattle.text.proofs.Prelude.{refl, sym, first, second, yes≤, no≤, yes=, no=, holds, fails}
 use Rattle.files.specs.Terminal.{visible}
 use Rattle.files.proofs.terminal.visible.Statement.{statement}
 use Rattle.files.proofs.terminal.visible.Tie as tie

@@ -1,6 +1,4 @@
-use borrow.Author.Needs.{needs}
-use mathlib.Core.Path.{refl}
-use Rattle.text.proofs.Steps.{first, second, yes=, no=}
+use Rattle.text.proofs.Prelude.{needs, refl, first, second, yes=, no=}
 use Rattle.h_record.specs.HRecord.{sourceByte, sourceOf}
 use Rattle.h_record.proofs.DataSource.from_byte.Statement.{statement}
 use Rattle.h_record.proofs.DataSource.from_byte.Tie as tie

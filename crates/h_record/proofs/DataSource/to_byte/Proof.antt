@@ -1,5 +1,4 @@
-use borrow.Author.Needs.{needs}
-use mathlib.Core.Path.{sym, ap}
+use Rattle.text.proofs.Prelude.{needs, sym, ap}
 use Rattle.h_record.specs.HRecord.{sourceByte}
 use Rattle.h_record.proofs.DataSource.to_byte.Statement.{statement}
 use Rattle.h_record.proofs.DataSource.to_byte.Tie as tie
@@ -9,10 +8,7 @@ unfolding sourceByte
 to-byte-spec =
     tie.close
     (tie.spec
-    (search needs)
-    (search needs)
-    (search needs)
-    (search needs)
+    (search needs) (search needs) (search needs) (search needs)
     (λ c. ap sourceByte (sym (c .enum-told .given .1)))
     (λ c. ap sourceByte (sym (c .enum-told2 .given .1)))
     (λ c. ap sourceByte (sym (c .enum-told3 .given .1)))

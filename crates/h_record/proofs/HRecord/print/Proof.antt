@@ -1,10 +1,7 @@
-use borrow.Author.Needs.{needs}
-use mathlib.Core.Path.{_≡_, refl}
-use denote.Ref.{now}
-use Rattle.text.specs.Res.{Res, ok, no}
+use Rattle.text.specs.Prelude.{_≡_, now, Res, ok, no}
+use Rattle.text.proofs.Prelude.{needs, refl, came, on, off}
 use Rattle.part.specs.Part.{findPart, findMaybe, partText, maybeText, textOf, foundRes}
 use Rattle.part.specs.declared.Part.{Part}
-use Rattle.text.proofs.Steps.{came, on, off}
 use Rattle.part.proofs.Parts.{text-found}
 use Rattle.print.proofs.Printing.{refused, no-room, written}
 use Rattle.h_record.specs.HRecord.{hText}
@@ -43,7 +40,8 @@ full : tie.Need-returns
 unfolding hText partText maybeText
 full c =
     no-room
-    (on _ (text-found _ (mnemonic (search needs))) (on _ (text-found _ (name (search needs))) (on _ (text-found _ (rest (search needs))) refl)))
+    (on _ (text-found _ (mnemonic (search needs)))
+    (on _ (text-found _ (name (search needs))) (on _ (text-found _ (rest (search needs))) refl)))
     (c .before .before .put-piece .ensures)
     (search needs)
 
@@ -51,7 +49,8 @@ fits : tie.Need-returns-5
 unfolding hText partText maybeText
 fits c =
     written
-    (on _ (text-found _ (mnemonic (search needs))) (on _ (text-found _ (name (search needs))) (on _ (text-found _ (rest (search needs))) refl)))
+    (on _ (text-found _ (mnemonic (search needs)))
+    (on _ (text-found _ (name (search needs))) (on _ (text-found _ (rest (search needs))) refl)))
     (c .before .before .before .before .before .before .put-piece .ensures)
     (search needs)
     (c .before .before .put-piece2 .ensures)
@@ -61,21 +60,13 @@ unfolding hText partText maybeText textOf
 print-spec =
     tie.close
     (tie.spec
-    (search needs)
-    (search needs)
-    (search needs)
-    (search needs)
-    (search needs)
-    (search needs)
-    (search needs)
-    (search needs)
-    (search needs)
-    (search needs)
-    (search needs)
+    (search needs) (search needs) (search needs) (search needs) (search needs) (search needs) (search needs)
+    (search needs) (search needs) (search needs) (search needs)
     full
     (search needs)
     (λ c. refused _ (off _ (off _ (no-mnemonic (search needs)))))
     (λ c. refused _ (on _ (text-found _ (mnemonic (search needs))) (off _ (off _ (no-name (search needs))))))
-    (λ c. refused _ (on _ (text-found _ (mnemonic (search needs))) (on _ (text-found _ (name (search needs))) (off _ (off _ (no-rest (search needs)))))))
+    (λ c. refused _ (on _ (text-found _ (mnemonic (search needs)))
+    (on _ (text-found _ (name (search needs))) (off _ (off _ (no-rest (search needs)))))))
     (search needs)
     fits)

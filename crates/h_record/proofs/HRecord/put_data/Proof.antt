@@ -1,4 +1,4 @@
-use borrow.Author.Needs.{needs}
+use Rattle.text.proofs.Prelude.{needs}
 use Rattle.put.proofs.Writing.{then}
 use Rattle.h_record.specs.HRecord.{dataText}
 use Rattle.h_record.proofs.HRecord.put_data.Statement.{statement}

@@ -1,7 +1,5 @@
-use borrow.Author.Needs.{needs}
-use mathlib.Core.Path.{_≡_, ap}
-use mathlib.Core.Bool.{true}
-use Rattle.text.proofs.Steps.{pass, stop, yes≤, no≤}
+use Rattle.text.specs.Prelude.{_≡_, true}
+use Rattle.text.proofs.Prelude.{needs, ap, pass, stop, yes≤, no≤}
 use Rattle.held.specs.Held.{isSet, define}
 use Rattle.held.proofs.Held.define.Statement.{statement}
 use Rattle.held.proofs.Held.define.Tie as tie
@@ -15,8 +13,7 @@ unfolding define isSet
 define-spec =
     tie.close
     (tie.spec
-    (search needs)
-    (search needs)
+    (search needs) (search needs)
     (λ c. pass _ (is-set (search needs)) (stop _ (no≤ (search needs))))
     (search needs)
     (λ c. stop _ (ap isSet (c .enum-told .given .1)))

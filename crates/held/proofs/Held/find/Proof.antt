@@ -1,5 +1,4 @@
-use borrow.Author.Needs.{needs}
-use Rattle.text.proofs.Steps.{came, on, off}
+use Rattle.text.proofs.Prelude.{needs, came, on, off}
 use Rattle.extension.specs.Extension.{extensionRes}
 use Rattle.held.specs.Held.{lookUp}
 use Rattle.held.proofs.Held.find.Statement.{statement}
@@ -10,9 +9,7 @@ unfolding lookUp
 find-spec =
     tie.close
     (tie.spec
-    (search needs)
-    (search needs)
-    (search needs)
-    (search needs)
-    (λ c. on _ (came extensionRes (c .before .before .extension .given .1) (c .before .before .before .before .define .ensures)) (c .find .ensures))
+    (search needs) (search needs) (search needs) (search needs)
+    (λ c. on _ (came extensionRes (c .before .before .extension .given .1)
+    (c .before .before .before .before .define .ensures)) (c .find .ensures))
     (λ c. off _ (came extensionRes (c .before .no-definition .given .1) (c .before .before .before .define .ensures))))

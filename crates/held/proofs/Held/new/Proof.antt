@@ -1,4 +1,4 @@
-use borrow.Author.Needs.{needs}
+use Rattle.text.proofs.Prelude.{needs}
 use Rattle.held.specs.Held.{noTable}
 use Rattle.held.proofs.Held.new.Statement.{statement}
 use Rattle.held.proofs.Held.new.Tie as tie

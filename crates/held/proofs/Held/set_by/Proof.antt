@@ -1,16 +1,11 @@
-use borrow.Author.Needs.{needs}
-use mathlib.Core.Path.{_≡_, sym, ap, _∙_}
-use mathlib.Core.List.{List}
-use Rattle.text.specs.Res.{Res, ok, no}
+use Rattle.text.specs.Prelude.{_≡_, List, Res, ok, no}
+use Rattle.text.proofs.Prelude.{needs, sym, ap, _∙_}
 use Rattle.table.specs.Table.{tableRead}
 use Rattle.extension.specs.declared.Extension.{Extension}
-use Rattle.table.specs.declared.Table.{Table}
-use Rattle.table.specs.declared.TableRead.{TableRead}
-use Rattle.table.specs.declared.Verdict.{Verdict}
+use Rattle.table.specs.declared.{Table.Table, TableRead.TableRead, Verdict.Verdict}
 use Rattle.table.specs.declared.Verdict.the-variants.{Accepted, Refused}
 use Rattle.held.specs.Held.{noTable, setBy}
-use Rattle.held.specs.declared.Held.{Held}
-use Rattle.held.specs.declared.Slot.{Slot}
+use Rattle.held.specs.declared.{Held.Held, Slot.Slot}
 use Rattle.held.specs.declared.Slot.the-variants.{Empty, Set}
 use Rattle.held.proofs.Held.set_by.Statement.{statement}
 use Rattle.held.proofs.Held.set_by.Tie as tie
@@ -34,8 +29,7 @@ unfolding keep slotOf
 set-by-spec =
     tie.close
     (tie.spec
-    (search needs)
-    (search needs)
-    (search needs)
+    (search needs) (search needs) (search needs)
     (λ c. ap (keep _) (sym (c .enum-told .given .1)) ∙ kept _ (c .before .before .before .parse .ensures))
-    (λ c. ap (keep _) (sym (c .before .verdict .given .1)) ∙ kept _ (c .before .before .before .before .parse .ensures)))
+    (λ c. ap (keep _) (sym (c .before .verdict .given .1))
+    ∙ kept _ (c .before .before .before .before .parse .ensures)))

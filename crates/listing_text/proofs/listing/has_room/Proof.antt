@@ -1,12 +1,7 @@
-use borrow.Author.Needs.{needs}
-use Prim.Native.Nat.{ℕ, _+_, _-_, _*_, _/_, _≤_}
-use mathlib.Core.Path.{_≡_, sym, _∙_}
-use native.Mathlib.Omega.{arith}
-use native.Mathlib.Nat.{div-add-mod'}
+use Rattle.text.specs.Prelude.{ℕ, _+_, _-_, _*_, _/_, _≤_, _≡_, _≤?_}
+use Rattle.text.proofs.Prelude.{arith, sym, _∙_, yes≤, no≤, is≤, isnt≤, tested}
 use lib.Dec.{leb}
-use Rattle.text.specs.Res.{_≤?_}
-use Rattle.text.proofs.Steps.{yes≤, no≤, is≤, isnt≤, tested}
-use Rattle.log.proofs.Ends.{either}
+use Rattle.log.proofs.Ends.{by-test}
 use Rattle.listing_text.specs.Listing.{roomFor}
 use Rattle.listing_text.proofs.listing.has_room.Statement.{statement}
 use Rattle.listing_text.proofs.listing.has_room.Tie as tie
@@ -15,7 +10,7 @@ use Rattle.listing_text.proofs.listing.has_room.Tie as tie
 room : (n r : ℕ) → 65 ≤ r → leb n ((r - 65) / 38) ≡ (38 * n + 65 ≤? r)
 room n r h =
     sym (tested n ((r - 65) / 38))
-    ∙ either (38 * n + 65 ≤? r) (λ e. yes≤ (omega (arith, is≤ e)) ∙ sym e) (λ e. no≤ (omega (arith, isnt≤ e)) ∙ sym e)
+    ∙ by-test (38 * n + 65 ≤? r) (λ e. yes≤ (omega (arith, is≤ e)) ∙ sym e) (λ e. no≤ (omega (arith, isnt≤ e)) ∙ sym e)
 
 pub has-room-spec : {M : Type 1} → statement M
 unfolding roomFor

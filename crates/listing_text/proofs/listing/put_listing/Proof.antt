@@ -1,24 +1,22 @@
-use borrow.Author.Needs.{needs}
-use Prim.Native.Nat.{_-_}
-use native.Mathlib.Omega.{arith}
-use lib.ListN.{length}
-use Rattle.put.proofs.Writing.{kept}
-use Rattle.walk.proofs.Turns.{nearer}
+use Rattle.text.specs.Prelude.{_-_, length}
+use Rattle.text.proofs.Prelude.{needs, arith}
+use Rattle.put.proofs.Writing.{wrote-length}
+use Rattle.walk.proofs.Turns.{less-left}
 use Rattle.listing_text.proofs.Telling.{Telling, at-start, at-end, line}
 use Rattle.listing_text.proofs.listing.put_listing.Statement.{statement}
 use Rattle.listing_text.proofs.listing.put_listing.Tie as tie
 
 abbrev Inv-loop : tie.InvT-loop
-Inv-loop log buf₀ at trailer₀ end₀ place₀ buf trailer end place = Telling log buf₀ at buf trailer end place
+Inv-loop buf₀ at log trailer₀ end₀ place₀ buf trailer end place = Telling log buf₀ at buf trailer end place
 
 abbrev μ-loop : tie.MeasureT-loop
-μ-loop log buf₀ at trailer₀ end₀ place₀ buf trailer end place = length log - place
+μ-loop buf₀ at log trailer₀ end₀ place₀ buf trailer end place = length log - place
 
 loop-less : tie.Need-loop-less Inv-loop μ-loop
 loop-less c =
     let read = c .before .before .before .before .before .before .before in
     let test = read .before in
-    nearer (test .loop-test .taken) (test .before .loop .inv .reached) (read .read-at .ensures)
+    less-left (test .loop-test .taken) (test .before .loop .inv .reached) (read .read-at .ensures)
 
 loop-again : tie.Need-loop-again Inv-loop μ-loop
 loop-again c =
@@ -44,12 +42,9 @@ put-listing-spec =
     μ-loop
     (search needs)
     (λ c. rw (c .new .ensures) (at-start _ _ _ (omega arith) (omega arith) (omega arith)))
-    (search needs)
-    (search needs)
-    (search needs)
-    (search needs)
+    (search needs) (search needs) (search needs) (search needs)
     loop-less
     loop-again
     (search needs)
-    (λ c. kept (returns c))
+    (λ c. wrote-length (returns c))
     returns)

@@ -1,9 +1,5 @@
-use borrow.Author.Needs.{needs}
-use mathlib.Core.Path.{refl, sym, ap}
-use mathlib.Core.List.{[]}
-use native.Mathlib.Omega.{arith}
-use denote.Ref.{now}
-use Rattle.text.specs.Res.{ok}
+use Rattle.text.specs.Prelude.{[], now, ok}
+use Rattle.text.proofs.Prelude.{needs, arith, refl, sym, ap}
 use Rattle.put.specs.Put.{Wrote}
 use Rattle.print.proofs.Printing.{no-room, written}
 use Rattle.listing_text.specs.Paper.{tooLong}
@@ -37,11 +33,8 @@ pub print-paper-spec : {M : Type 1} → statement M
 print-paper-spec =
     tie.close
     (tie.spec
-    (search needs)
-    (search needs)
+    (search needs) (search needs)
     listed
     full
-    (search needs)
-    (search needs)
-    (search needs)
+    (search needs) (search needs) (search needs)
     too-long)

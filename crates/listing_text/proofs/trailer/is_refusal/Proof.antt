@@ -1,6 +1,4 @@
-use borrow.Author.Needs.{needs}
-use mathlib.Core.Path.{sym}
-use Rattle.text.proofs.Steps.{yes≤, no≤, tested, holds, fails}
+use Rattle.text.proofs.Prelude.{needs, sym, yes≤, no≤, holds, fails, tested}
 use Rattle.listing_text.specs.Trailer.{isRefusal}
 use Rattle.listing_text.proofs.Answers.{number-is}
 use Rattle.listing_text.proofs.trailer.is_refusal.Statement.{statement}

@@ -1,7 +1,6 @@
-use borrow.Author.Needs.{needs}
-use mathlib.Core.Path.{refl}
+use Rattle.text.proofs.Prelude.{needs, refl}
 use Rattle.manufacturer.specs.Maker.{letterOf}
-use Rattle.manufacturer.proofs.Arms.{at}
+use Rattle.manufacturer.proofs.Arms.{in-arm}
 use Rattle.manufacturer.proofs.Manufacturer.to_single_char.Statement.{statement}
 use Rattle.manufacturer.proofs.Manufacturer.to_single_char.Tie as tie
 
@@ -10,14 +9,21 @@ unfolding letterOf
 to-single-char-spec =
     tie.close
     (tie.spec
-    (search needs) (search needs) (search needs) (search needs) (search needs) (search needs) (search needs) (search needs)
-    (search needs) (search needs) (search needs) (search needs) (search needs) (search needs) (search needs) (search needs)
-    (search needs) (search needs) (search needs) (search needs) (search needs) (search needs) (search needs) (search needs)
+    (search needs) (search needs) (search needs) (search needs) (search needs) (search needs) (search needs)
     (search needs)
-    (λ c. search (at letterOf)) (λ c. search (at letterOf)) (λ c. search (at letterOf)) (λ c. search (at letterOf)) (λ c. search (at letterOf))
-    (λ c. search (at letterOf)) (λ c. search (at letterOf)) (λ c. search (at letterOf)) (λ c. search (at letterOf)) (λ c. search (at letterOf))
-    (λ c. search (at letterOf)) (λ c. search (at letterOf)) (λ c. search (at letterOf)) (λ c. search (at letterOf)) (λ c. search (at letterOf))
-    (λ c. search (at letterOf)) (λ c. search (at letterOf)) (λ c. search (at letterOf)) (λ c. search (at letterOf)) (λ c. search (at letterOf))
-    (λ c. search (at letterOf)) (λ c. search (at letterOf)) (λ c. search (at letterOf))
-    (λ c. at letterOf (c .before .self .given .1) refl)
-    (λ c. search (at letterOf)))
+    (search needs) (search needs) (search needs) (search needs) (search needs) (search needs) (search needs)
+    (search needs)
+    (search needs) (search needs) (search needs) (search needs) (search needs) (search needs) (search needs)
+    (search needs)
+    (search needs)
+    (λ c. search (in-arm letterOf)) (λ c. search (in-arm letterOf)) (λ c. search (in-arm letterOf))
+    (λ c. search (in-arm letterOf)) (λ c. search (in-arm letterOf))
+    (λ c. search (in-arm letterOf)) (λ c. search (in-arm letterOf)) (λ c. search (in-arm letterOf))
+    (λ c. search (in-arm letterOf)) (λ c. search (in-arm letterOf))
+    (λ c. search (in-arm letterOf)) (λ c. search (in-arm letterOf)) (λ c. search (in-arm letterOf))
+    (λ c. search (in-arm letterOf)) (λ c. search (in-arm letterOf))
+    (λ c. search (in-arm letterOf)) (λ c. search (in-arm letterOf)) (λ c. search (in-arm letterOf))
+    (λ c. search (in-arm letterOf)) (λ c. search (in-arm letterOf))
+    (λ c. search (in-arm letterOf)) (λ c. search (in-arm letterOf)) (λ c. search (in-arm letterOf))
+    (λ c. in-arm letterOf (c .before .self .given .1) refl)
+    (λ c. search (in-arm letterOf)))

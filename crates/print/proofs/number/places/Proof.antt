@@ -1,7 +1,5 @@
-use mathlib.Core.Path.{_≡_, refl}
-use Prim.Native.Nat.{_+_, _≤_}
-use native.Mathlib.Omega.{arith}
-use Rattle.text.specs.Number.{placesOf}
+use Rattle.text.specs.Prelude.{_+_, _≤_, _≡_, placesOf}
+use Rattle.text.proofs.Prelude.{arith, refl}
 use Rattle.text.proofs.Decimal.{places-small, places-large}
 use Rattle.print.proofs.number.places.Statement.{statement}
 use Rattle.print.proofs.number.places.Tie as tie

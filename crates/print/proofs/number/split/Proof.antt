@@ -1,10 +1,8 @@
 -- The only proof about signed arithmetic: z is negsuc k below 0 and pos k else.
-use mathlib.Core.Path.{_≡_, refl, sym, ap, _∙_, subst}
-use mathlib.Core.Bool.{true, false}
-use Prim.Native.Nat.{ℕ, zero, suc, _+_, _<_, _^_}
+use Rattle.text.specs.Prelude.{ℕ, zero, suc, _+_, _^_, _<_, _≡_, true, false, ℤ, pos, negsuc}
+use Rattle.text.proofs.Prelude.{arith, refl, sym, ap, _∙_, subst}
 use native.Mathlib.Numerals.{add-one}
-use native.Mathlib.Omega.{arith}
-use lib.IntN.{ℤ, pos, negsuc, negℤ, natAbs, _+ℤ_, _-ℤ_, +ℤ-one, +ℤ-idl}
+use lib.IntN.{negℤ, natAbs, _+ℤ_, _-ℤ_, +ℤ-one, +ℤ-idl}
 use lib.Signed.{ltZ, nonNeg}
 use lib.Dec.{T}
 use mir.Syntax.{w64}
@@ -62,11 +60,13 @@ below (negsuc k) f t =
 at-then : (c : tie.Then1) → Below (c .before .args .z)
 at-then c = below (c .before .args .z) (c .before .fits .z) (rw (toZ-ofZ (c .before .fits .z)) at (c .if1 .taken))
 
-above : (z : ℤ) → SFits w64 z → ltZ z (pos 0) ≡ false → T (nonNeg z) × Fits w64 (natAbs z) × (Plus (natAbs z) ≡ splitOf z)
+above : (z : ℤ) → SFits w64 z → ltZ z (pos 0) ≡ false → T (nonNeg z) × Fits w64 (natAbs z)
+    × (Plus (natAbs z) ≡ splitOf z)
 above (pos n) f t = (tt, record { fits = omega (arith, f .sfits) }, refl)
 above (negsuc n) f t = absurd (subst T t tt)
 
-at-else : (c : tie.Else1) → T (nonNeg (c .before .args .z)) × Fits w64 (natAbs (c .before .args .z)) × (Plus (natAbs (c .before .args .z)) ≡ splitOf (c .before .args .z))
+at-else : (c : tie.Else1) → T (nonNeg (c .before .args .z)) × Fits w64 (natAbs (c .before .args .z))
+    × (Plus (natAbs (c .before .args .z)) ≡ splitOf (c .before .args .z))
 at-else c = above (c .before .args .z) (c .before .fits .z) (rw (toZ-ofZ (c .before .fits .z)) at (c .if1 .left))
 
 add-t4 : tie.Need-add-t4

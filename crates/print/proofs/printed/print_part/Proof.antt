@@ -1,12 +1,7 @@
-use borrow.Author.Needs.{needs}
-use Prim.Native.Nat.{ℕ}
-use mathlib.Core.Path.{_≡_}
-use mathlib.Core.List.{List}
-use denote.Ref.{now}
-use Rattle.text.specs.Res.{ok, no}
+use Rattle.text.specs.Prelude.{ℕ, _≡_, List, now, ok, no}
+use Rattle.text.proofs.Prelude.{needs, came, off}
 use Rattle.part.specs.Part.{findPart, partText, textOf, foundRes}
 use Rattle.part.specs.declared.Part.{Part}
-use Rattle.text.proofs.Steps.{came, off}
 use Rattle.part.proofs.Parts.{text-found}
 use Rattle.print.proofs.Printing.{refused, no-room, written}
 use Rattle.print.proofs.printed.print_part.Statement.{statement}
@@ -31,7 +26,11 @@ full c = no-room (text-found _ (found (search needs))) (c .before .before .put-p
 
 fits : tie.Need-returns-3
 unfolding partText
-fits c = written (text-found _ (found (search needs))) (c .before .before .before .before .before .before .put-part .ensures) (search needs) (c .before .before .put-part2 .ensures)
+fits c = written (text-found _ (found (search needs)))
+    (c .before .before .before .before .before .before .put-part .ensures) (search needs)
+    (c .before .before .put-part2 .ensures)
 
 pub print-part-spec : {M : Type 1} → statement M
-print-part-spec = tie.close (tie.spec (search needs) (search needs) (search needs) (search needs) (search needs) full (search needs) outside (search needs) fits)
+print-part-spec =
+    tie.close (tie.spec (search needs) (search needs) (search needs) (search needs) (search needs) full (search needs)
+    outside (search needs) fits)

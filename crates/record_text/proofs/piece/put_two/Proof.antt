@@ -1,9 +1,10 @@
-use borrow.Author.Needs.{needs}
+use Rattle.text.proofs.Prelude.{needs}
 use Rattle.put.proofs.Writing.{then}
-use Rattle.record_text.specs.Piece.{two}
+use Rattle.record_text.specs.Piece.{twoMarked}
 use Rattle.record_text.proofs.piece.put_two.Statement.{statement}
 use Rattle.record_text.proofs.piece.put_two.Tie as tie
 
 pub put-two-spec : {M : Type 1} → statement M
-unfolding two
-put-two-spec = tie.close (tie.spec (search needs) (search needs) (search needs) (search needs) (search needs) (λ c. search (then)))
+unfolding twoMarked
+put-two-spec = tie.close (tie.spec (search needs) (search needs) (search needs) (search needs) (search needs)
+    (λ c. search (then)))

@@ -1,14 +1,9 @@
-use borrow.Author.Needs.{needs}
-use Prim.Native.Nat.{ℕ, _+_, _*_, _<_}
-use mathlib.Core.Path.{_≡_}
-use mathlib.Core.List.{List}
-use native.Mathlib.Omega.{arith}
-use denote.Ref.{now}
-use lib.ListN.{length}
+use Rattle.text.specs.Prelude.{ℕ, _+_, _*_, _<_, _≡_, List, length, now}
+use Rattle.text.proofs.Prelude.{needs, arith}
 use Rattle.table.proofs.Defs.{long-under}
 use Rattle.held.specs.declared.Held.{Held}
 use Rattle.record_text.specs.Value.{tableNames, namesIn}
-use Rattle.record_text.proofs.Names.{in-threes, spelt, count-defs, has, named, given, of-table}
+use Rattle.record_text.proofs.Names.{in-threes, name-at, count-defs, has, named, given, of-table}
 use Rattle.record_text.proofs.value.asked_at.Statement.{statement}
 use Rattle.record_text.proofs.value.asked_at.Tie as tie
 
@@ -42,7 +37,7 @@ room c = omega (arith, of-given c, in-threes (names (c .before)))
 from-given : tie.Need-returns-2
 from-given c =
     let s : tie.Start = search needs in
-    rw (← given (held s) (names s) (omega arith)) (spelt (names s) (s .args .i) (of-given (search needs)))
+    rw (← given (held s) (names s) (omega arith)) (name-at (names s) (s .args .i) (of-given (search needs)))
 
 pub asked-at-spec : {M : Type 1} → statement M
 asked-at-spec =

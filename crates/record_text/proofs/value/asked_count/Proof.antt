@@ -1,7 +1,5 @@
-use borrow.Author.Needs.{needs}
-use mathlib.Core.Path.{sym, ap, _∙_}
-use native.Mathlib.Omega.{arith}
-use lib.ListN.{length}
+use Rattle.text.specs.Prelude.{length}
+use Rattle.text.proofs.Prelude.{needs, arith, sym, ap, _∙_}
 use Rattle.record_text.proofs.Names.{in-threes, given, of-table}
 use Rattle.record_text.proofs.value.asked_count.Statement.{statement}
 use Rattle.record_text.proofs.value.asked_count.Tie as tie

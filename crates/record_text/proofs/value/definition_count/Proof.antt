@@ -1,7 +1,5 @@
-use borrow.Author.Needs.{needs}
-use mathlib.Core.Path.{_≡_}
-use native.Mathlib.Omega.{arith}
-use lib.ListN.{length}
+use Rattle.text.specs.Prelude.{_≡_, length}
+use Rattle.text.proofs.Prelude.{needs, arith}
 use Rattle.table.proofs.Defs.{long-under}
 use Rattle.record_text.proofs.Names.{count-defs}
 use Rattle.record_text.proofs.value.definition_count.Statement.{statement}

@@ -1,4 +1,4 @@
-use borrow.Author.Needs.{needs}
+use Rattle.text.proofs.Prelude.{needs}
 use Rattle.put.proofs.Writing.{then}
 use Rattle.record_text.specs.Value.{foundText}
 use Rattle.record_text.proofs.value.put_found.Statement.{statement}
@@ -16,4 +16,6 @@ refused c =
     rw (e .found2 .given .1, ← n .number .ensures) (c .before .before .put-nat .ensures)
 
 pub put-found-spec : {M : Type 1} → statement M
-put-found-spec = tie.close (tie.spec (search needs) (search needs) (search needs) (search needs) (search needs) (search needs) (search needs) (search needs) (search needs) at (search needs) refused)
+put-found-spec =
+    tie.close (tie.spec (search needs) (search needs) (search needs) (search needs) (search needs) (search needs)
+    (search needs) (search needs) (search needs) at (search needs) refused)

@@ -1,5 +1,4 @@
-use borrow.Author.Needs.{needs}
-use mathlib.Core.Path.{sym, _∙_}
+use Rattle.text.proofs.Prelude.{needs, sym, _∙_}
 use Rattle.held.specs.Held.{isSet}
 use Rattle.record_text.proofs.Names.{no-names, count-names}
 use Rattle.record_text.proofs.value.table_count.Statement.{statement}
@@ -10,8 +9,6 @@ unfolding isSet
 table-count-spec =
     tie.close
     (tie.spec
-    (search needs)
-    (search needs)
-    (search needs)
+    (search needs) (search needs) (search needs)
     (λ c. sym (no-names _ (rw (c .enum-told .given .1))))
     (λ c. c .definition-count .ensures ∙ sym (count-names _ (rw (c .before .enum-told2 .given .1)))))

@@ -1,4 +1,4 @@
-use borrow.Author.Needs.{needs}
+use Rattle.text.proofs.Prelude.{needs}
 use Rattle.records.specs.Record.{answerFix}
 use Rattle.records.proofs.Reading.fix.Statement.{statement}
 use Rattle.records.proofs.Reading.fix.Tie as tie
@@ -8,8 +8,6 @@ unfolding answerFix
 fix-spec =
     tie.close
     (tie.spec
-    (search needs)
-    (search needs)
-    (search needs)
+    (search needs) (search needs) (search needs)
     (λ c. rw (c .before .before .self .given .1) (c .fix .ensures))
     (λ c. rw (c .enum-told .given .1)))

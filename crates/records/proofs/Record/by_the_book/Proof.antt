@@ -1,4 +1,4 @@
-use borrow.Author.Needs.{needs}
+use Rattle.text.proofs.Prelude.{needs}
 use Rattle.records.specs.Record.{recordBook}
 use Rattle.records.proofs.Record.by_the_book.Statement.{statement}
 use Rattle.records.proofs.Record.by_the_book.Tie as tie
@@ -8,18 +8,8 @@ unfolding recordBook
 by-the-book-spec =
     tie.close
     (tie.spec
-    (search needs)
-    (search needs)
-    (search needs)
-    (search needs)
-    (search needs)
-    (search needs)
-    (search needs)
-    (search needs)
-    (search needs)
-    (search needs)
-    (search needs)
-    (search needs)
+    (search needs) (search needs) (search needs) (search needs) (search needs) (search needs) (search needs)
+    (search needs) (search needs) (search needs) (search needs) (search needs)
     (λ c. rw (c .enum-told .given .1))
     (λ c. rw (c .before .before .self .given .1) (c .by-the-book .ensures))
     (λ c. rw (c .before .before .self2 .given .1) (c .by-the-book2 .ensures))

@@ -1,4 +1,4 @@
-use borrow.Author.Needs.{needs}
+use Rattle.text.proofs.Prelude.{needs}
 use Rattle.records.specs.Record.{recordText}
 use Rattle.records.proofs.Record.print.Statement.{statement}
 use Rattle.records.proofs.Record.print.Tie as tie
@@ -8,25 +8,9 @@ unfolding recordText
 print-spec =
     tie.close
     (tie.spec
-    (search needs)
-    (search needs)
-    (search needs)
-    (search needs)
-    (search needs)
-    (search needs)
-    (search needs)
-    (search needs)
-    (search needs)
-    (search needs)
-    (search needs)
-    (search needs)
-    (search needs)
-    (search needs)
-    (search needs)
-    (search needs)
-    (search needs)
-    (search needs)
-    (search needs)
+    (search needs) (search needs) (search needs) (search needs) (search needs) (search needs) (search needs)
+    (search needs) (search needs) (search needs) (search needs) (search needs) (search needs) (search needs)
+    (search needs) (search needs) (search needs) (search needs) (search needs)
     (λ c. rw (c .before .before .before .before .before .self .given .1) (c .before .before .print .ensures))
     (search needs)
     (λ c. rw (c .before .before .before .before .before .self2 .given .1) (c .before .before .print2 .ensures))

@@ -1,4 +1,4 @@
-use borrow.Author.Needs.{needs}
+use Rattle.text.proofs.Prelude.{needs}
 use Rattle.records.specs.Record.{recordTable}
 use Rattle.records.proofs.Record.table.Statement.{statement}
 use Rattle.records.proofs.Record.table.Tie as tie
@@ -8,24 +8,9 @@ unfolding recordTable
 table-spec =
     tie.close
     (tie.spec
-    (search needs)
-    (search needs)
-    (search needs)
-    (search needs)
-    (search needs)
-    (search needs)
-    (search needs)
-    (search needs)
-    (search needs)
-    (search needs)
-    (search needs)
-    (search needs)
-    (search needs)
-    (search needs)
-    (search needs)
-    (search needs)
-    (search needs)
-    (search needs)
+    (search needs) (search needs) (search needs) (search needs) (search needs) (search needs) (search needs)
+    (search needs) (search needs) (search needs) (search needs) (search needs) (search needs) (search needs)
+    (search needs) (search needs) (search needs) (search needs)
     (λ c. rw (c .before .before .enum-told .given .1, c .before .parse .ensures))
     (λ c. rw (c .before .before .enum-told2 .given .1, c .before .parse2 .ensures))
     (λ c. rw (c .before .enum-told3 .given .1) (c .new .ensures))

@@ -1,4 +1,4 @@
-use mathlib.Core.Path.{refl}
+use Rattle.text.proofs.Prelude.{refl}
 use Rattle.table.specs.Table.{tableOf}
 use Rattle.table.proofs.Table.new.Statement.{statement}
 use Rattle.table.proofs.Table.new.Tie as tie

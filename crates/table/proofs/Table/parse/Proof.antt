@@ -1,17 +1,9 @@
-use borrow.Author.Needs.{needs}
-use Prim.Native.Nat.{ℕ, _≤_}
-use mathlib.Core.Path.{_≡_, refl, ap, _∙_}
-use mathlib.Core.Bool.{true}
-use mathlib.Core.List.{List}
-use native.Mathlib.Omega.{arith}
-use lib.ListN.{length, length-take, length-drop}
-use denote.Ref.{now}
-use Rattle.text.specs.Res.{ok, no}
-use Rattle.text.specs.Number.{readNat, u8Res}
-use Rattle.text.proofs.Steps.{came, on, off, pass, stop, yes≤, no≤, yes=, no=, so-true, so-false}
-use Rattle.text.specs.Line.{cut, columns}
+use Rattle.text.specs.Prelude.{ℕ, _≤_, _≡_, true, List, length, now, ok, no, byte, cut, columns, readNat}
+use Rattle.text.proofs.Prelude.{needs, arith, refl, ap, _∙_, length-drop, length-take, came, on, off, pass, stop, yes≤}
+use Rattle.text.proofs.Prelude.{no≤, yes=, no=, so-true, so-false}
+use Rattle.text.specs.Number.{u8Res}
 use Rattle.field.specs.Field.{isAscii, asciiIn, ascii}
-use Rattle.table.specs.Table.{readBody, readTable, tableRead}
+use Rattle.table.specs.Table.{isTable, readBody, readTable, tableRead}
 use Rattle.table.proofs.Counts.{two-characters}
 use Rattle.table.proofs.Table.parse.Statement.{statement}
 use Rattle.table.proofs.Table.parse.Tie as tie
@@ -22,8 +14,11 @@ line b = now (b .args .line)
 long : (c : tie.Else1) → 3 ≤ length (line (search needs))
 long c = c .if1 .left
 
-plain : (c : tie.Else2) → isAscii (line (search needs)) ≡ true
-plain c = search (so-true)
+lettered : (c : tie.Else2) → isTable (byte 0 (line (search needs))) ≡ true
+lettered c = so-true (c .before .is-table .ensures) (c .if2 .left)
+
+plain : (c : tie.Else3) → isAscii (line (search needs)) ≡ true
+plain c = so-true (c .before .is-ascii .ensures) (c .if3 .left)
 
 count : (c : tie.After-count) → ok (c .count .given .0 .0) ≡ columns 1 3 (readNat 255) (line (search needs))
 unfolding columns cut
@@ -35,7 +30,8 @@ no-count c = came u8Res (c .no-count .given .1) (c .before .before .read-u8 .ens
 
 at-most-99 : (c : tie.After-count) → c .count .given .0 .0 ≤ 99
 unfolding columns cut
-at-most-99 c = two-characters 255 (cut 1 3 (line (search needs))) (simp (length-take, length-drop) (omega arith)) (count c)
+at-most-99 c = two-characters 255 (cut 1 3 (line (search needs))) (simp (length-take, length-drop) (omega arith))
+    (count c)
 
 fits : tie.Need-parse-defs-requires
 fits c κs = (at-most-99 (search needs), simp (length-take, length-drop) (omega arith))
@@ -47,24 +43,28 @@ parse-spec =
     (tie.spec
     (search needs)
     (λ c. c .refused .ensures ∙ ap tableRead (stop _ (no≤ (search needs))))
-    (search needs)
-    (search needs)
-    (λ c. c .refused2 .ensures ∙ ap tableRead (pass _ (yes≤ (long (search needs))) (stop _ (search (so-false)))))
-    (search needs)
-    (search needs)
-    (search needs)
-    (search needs)
-    (search needs)
-    (search needs)
-    (search needs)
-    (search needs)
-    (search needs)
-    (λ c. c .refused3 .ensures ∙ ap tableRead (pass _ (yes≤ (long (search needs))) (pass _ (plain (search needs)) (on _ (count (search needs)) (stop _ (no= (search needs)))))))
-    (search needs)
-    (search needs)
-    (search needs)
+    (search needs) (search needs) (search needs)
+    (λ c. c .refused2 .ensures ∙ ap tableRead
+    (pass _ (yes≤ (long (search needs)))
+    (stop _ (so-false (c .before .before .is-table .ensures) (c .before .if2 .taken)))))
+    (search needs) (search needs)
+    (λ c. c .refused3 .ensures ∙ ap tableRead
+    (pass _ (yes≤ (long (search needs)))
+    (pass _ (lettered (search needs))
+    (stop _ (so-false (c .before .before .is-ascii .ensures) (c .before .if3 .taken))))))
+    (search needs) (search needs) (search needs) (search needs) (search needs) (search needs) (search needs)
+    (search needs) (search needs)
+    (λ c. c .refused4 .ensures ∙ ap tableRead
+    (pass _ (yes≤ (long (search needs)))
+    (pass _ (lettered (search needs))
+    (pass _ (plain (search needs)) (on _ (count (search needs)) (stop _ (no= (search needs))))))))
+    (search needs) (search needs) (search needs)
     fits
-    (search needs)
-    (search needs)
-    (λ c. c .parse-defs .ensures ∙ ap tableRead (pass _ (yes≤ (long (search needs))) (pass _ (plain (search needs)) (on _ (count (search needs)) (pass _ (yes= (search needs)) refl)))))
-    (λ c. c .refused4 .ensures ∙ ap tableRead (pass _ (yes≤ (long (search needs))) (pass _ (plain (search needs)) (off _ (no-count (search needs)))))))
+    (search needs) (search needs)
+    (λ c. c .parse-defs .ensures ∙ ap tableRead
+    (pass _ (yes≤ (long (search needs)))
+    (pass _ (lettered (search needs))
+    (pass _ (plain (search needs)) (on _ (count (search needs)) (pass _ (yes= (search needs)) refl))))))
+    (λ c. c .refused5 .ensures ∙ ap tableRead
+    (pass _ (yes≤ (long (search needs)))
+    (pass _ (lettered (search needs)) (pass _ (plain (search needs)) (off _ (no-count (search needs))))))))

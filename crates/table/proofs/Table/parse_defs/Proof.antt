@@ -1,11 +1,8 @@
-use Prim.Native.Nat.{_-_}
-use mathlib.Core.Path.{ap}
-use native.Mathlib.Omega.{arith}
-use borrow.Author.Needs.{needs}
-use Rattle.text.proofs.Steps.{came}
+use Rattle.text.specs.Prelude.{_-_}
+use Rattle.text.proofs.Prelude.{needs, arith, ap, came}
 use Rattle.extension.specs.Extension.{extensionRes}
 use Rattle.table.specs.Table.{tableOf, tableRead}
-use Rattle.table.proofs.Defs.{Turn, start, refuses, next, done}
+use Rattle.table.proofs.Defs.{Turn, turn-start, turn-refuses, turn-next, turn-done}
 use Rattle.table.proofs.Table.parse_defs.Statement.{statement}
 use Rattle.table.proofs.Table.parse_defs.Tie as tie
 
@@ -17,22 +14,24 @@ abbrev μ-loop : tie.MeasureT-loop
 
 loop-holds : tie.Need-loop-holds Inv-loop μ-loop
 unfolding tableOf
-loop-holds c = rw (c .new .ensures) (start _ _)
+loop-holds c = rw (c .new .ensures) (turn-start _ _)
 
 bad : tie.Need-returns Inv-loop μ-loop
 unfolding tableRead
 bad c =
     let l = c .before .before .before .before .before .before .loop in
     rw (c .before .before .before .before .before .before .before .new .ensures)
-    (ap tableRead (refuses _ _ (l .i) _ (l .inv) (search needs) (came extensionRes (c .before .bad .given .1) (c .before .before .before .parse .ensures))))
+    (ap tableRead (turn-refuses _ _ (l .i) _ (l .inv) (search needs)
+    (came extensionRes (c .before .bad .given .1) (c .before .before .before .parse .ensures))))
 
 loop-again : tie.Need-loop-again Inv-loop μ-loop
 loop-again c =
     let l = c .before .before .before .before .before .before .loop in
-    next _ _ (l .i) _ (l .inv) (search needs) (search needs) (came extensionRes (c .before .def .given .1) (c .before .before .before .parse .ensures))
+    turn-next _ _ (l .i) _ (l .inv) (search needs) (search needs)
+    (came extensionRes (c .before .def .given .1) (c .before .before .before .parse .ensures))
 
 ends : tie.Need-returns-2 Inv-loop μ-loop
-ends c = done _ _ _ _ (c .before .loop .inv) (search needs)
+ends c = turn-done _ _ _ _ (c .before .loop .inv) (search needs)
 
 pub parse-defs-spec : {M : Type 1} → statement M
 parse-defs-spec =
@@ -42,18 +41,10 @@ parse-defs-spec =
     μ-loop
     (search needs)
     loop-holds
-    (search needs)
-    (search needs)
-    (search needs)
-    (search needs)
+    (search needs) (search needs) (search needs) (search needs)
     (λ c. omega (arith, c .before .loop .inv .inside))
-    (search needs)
-    (search needs)
-    (search needs)
-    (search needs)
-    (search needs)
+    (search needs) (search needs) (search needs) (search needs) (search needs)
     bad
-    (search needs)
-    (search needs)
+    (search needs) (search needs)
     loop-again
     ends)

@@ -1,10 +1,7 @@
-use Prim.Native.Nat.{_≤_, _-_}
-use mathlib.Core.Path.{_≡_}
-use native.Mathlib.Omega.{arith}
-use lib.ListN.{length, take}
-use borrow.Author.Needs.{needs}
+use Rattle.text.specs.Prelude.{_-_, _≤_, _≡_, length, take}
+use Rattle.text.proofs.Prelude.{needs, arith}
 use Rattle.put.specs.Put.{Wrote}
-use Rattle.put.proofs.Writing.{kept, nothing}
+use Rattle.put.proofs.Writing.{wrote-length, wrote-nothing}
 use Rattle.table.specs.Table.{defsText, defsOf}
 use Rattle.table.proofs.Defs.{defs-then, defs-counted, long-under}
 use Rattle.table.proofs.Table.put_defs.Statement.{statement}
@@ -19,7 +16,7 @@ abbrev μ-loop : tie.MeasureT-loop
 
 loop-holds : tie.Need-loop-holds Inv-loop μ-loop
 unfolding defsText
-loop-holds c = (omega arith, nothing _ _ (omega arith) (omega arith))
+loop-holds c = (omega arith, wrote-nothing _ _ (omega arith) (omega arith))
 
 loop-again : tie.Need-loop-again Inv-loop μ-loop
 loop-again c =
@@ -37,4 +34,5 @@ ends c =
 
 pub put-defs-spec : {M : Type 1} → statement M
 put-defs-spec =
-    tie.close (tie.spec Inv-loop μ-loop (search needs) loop-holds (search needs) (search needs) (search needs) (search needs) (search needs) loop-again (λ c. kept (c .before .loop .inv .1)) ends)
+    tie.close (tie.spec Inv-loop μ-loop (search needs) loop-holds (search needs) (search needs) (search needs)
+    (search needs) (search needs) loop-again (λ c. wrote-length (c .before .loop .inv .1)) ends)

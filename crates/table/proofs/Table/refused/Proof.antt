@@ -1,4 +1,4 @@
-use borrow.Author.Needs.{needs}
+use Rattle.text.proofs.Prelude.{needs}
 use Rattle.table.specs.Table.{tableRead}
 use Rattle.table.proofs.Table.refused.Statement.{statement}
 use Rattle.table.proofs.Table.refused.Tie as tie

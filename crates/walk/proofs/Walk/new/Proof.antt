@@ -1,4 +1,4 @@
-use borrow.Author.Needs.{needs}
+use Rattle.text.proofs.Prelude.{needs}
 use Rattle.walk.specs.Walk.{fresh}
 use Rattle.walk.proofs.Walk.new.Statement.{statement}
 use Rattle.walk.proofs.Walk.new.Tie as tie

@@ -1,4 +1,4 @@
-use borrow.Author.Needs.{needs}
+use Rattle.text.proofs.Prelude.{needs}
 use Rattle.walk.proofs.Turns.{got}
 use Rattle.walk.proofs.turn.read_at.Statement.{statement}
 use Rattle.walk.proofs.turn.read_at.Tie as tie

@@ -1,8 +1,5 @@
-use borrow.Author.Needs.{needs}
-use Prim.Native.Nat.{_-_, _≤_}
-use mathlib.Core.Path.{_≡_, refl}
-use native.Mathlib.Omega.{arith}
-use lib.ListN.{length}
+use Rattle.text.specs.Prelude.{_-_, _≤_, _≡_, length}
+use Rattle.text.proofs.Prelude.{needs, arith, refl}
 use Rattle.words.proofs.names.count_names.Statement.{statement}
 use Rattle.words.proofs.names.count_names.Tie as tie
 
@@ -20,10 +17,8 @@ count-names-spec =
     μ-loop
     (λ c. (omega arith, refl))
     (λ c κs. (omega arith, omega arith))
-    (search needs)
-    (search needs)
+    (search needs) (search needs)
     (λ c. omega arith)
     (λ c. omega arith)
-    (search needs)
-    (search needs)
+    (search needs) (search needs)
     (search needs))

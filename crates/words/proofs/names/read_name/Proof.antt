@@ -1,8 +1,5 @@
-use borrow.Author.Needs.{needs}
-use Prim.Native.Nat.{ℕ, _*_}
-use mathlib.Core.Path.{_≡_}
-use mathlib.Core.List.{List}
-use lib.ListN.{length}
+use Rattle.text.specs.Prelude.{ℕ, _*_, _≡_, List, length}
+use Rattle.text.proofs.Prelude.{needs}
 use Rattle.put.specs.Put.{Wrote}
 use Rattle.words.specs.Names.{Named}
 use Rattle.words.proofs.names.read_name.Statement.{statement}
@@ -19,16 +16,6 @@ pub read-name-spec : {M : Type 1} → statement M
 read-name-spec =
     tie.close
     (tie.spec
-    (search needs)
-    (search needs)
-    (search needs)
-    (search needs)
-    (search needs)
-    (search needs)
-    (search needs)
-    (search needs)
-    (search needs)
-    (search needs)
-    (search needs)
-    (search needs)
+    (search needs) (search needs) (search needs) (search needs) (search needs) (search needs) (search needs)
+    (search needs) (search needs) (search needs) (search needs) (search needs)
     named)

@@ -1,6 +1,4 @@
-use borrow.Author.Needs.{needs}
-use mathlib.Core.Path.{refl}
-use Rattle.text.proofs.Steps.{never}
+use Rattle.text.proofs.Prelude.{needs, refl, never}
 use Rattle.words.proofs.names.read_names.Statement.{statement}
 use Rattle.words.proofs.names.read_names.Tie as tie
 
@@ -9,17 +7,8 @@ read-names-spec =
     tie.close
     (tie.spec
     (λ c h. never h refl)
-    (search needs)
-    (search needs)
+    (search needs) (search needs)
     (λ c h. never h refl)
-    (search needs)
-    (search needs)
-    (search needs)
-    (search needs)
-    (search needs)
-    (search needs)
-    (search needs)
-    (search needs)
-    (search needs)
-    (search needs)
+    (search needs) (search needs) (search needs) (search needs) (search needs) (search needs) (search needs)
+    (search needs) (search needs) (search needs)
     (search needs))

@@ -1,7 +1,5 @@
-use borrow.Author.Needs.{needs}
-use mathlib.Core.Path.{refl, sym, _∙_}
-use Rattle.text.specs.Res.{_∧?_}
-use Rattle.text.proofs.Steps.{first, second}
+use Rattle.text.specs.Prelude.{_∧?_}
+use Rattle.text.proofs.Prelude.{needs, refl, sym, _∙_, first, second}
 use Rattle.coord.specs.Coord.{positionBook}
 use Rattle.coord.proofs.position.RawPosition.by_the_book.Statement.{statement}
 use Rattle.coord.proofs.position.RawPosition.by_the_book.Tie as tie
@@ -11,7 +9,6 @@ unfolding positionBook _∧?_
 by-the-book-spec =
     tie.close
     (tie.spec
-    (search needs)
-    (search needs)
+    (search needs) (search needs)
     (λ c. first _ (sym (c .before .before .by-the-book .ensures) ∙ c .before .if1 .taken) (c .by-the-book2 .ensures))
     (λ c. second _ (sym (c .before .by-the-book .ensures) ∙ c .if1 .left) refl))

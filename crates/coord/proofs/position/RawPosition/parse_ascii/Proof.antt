@@ -1,11 +1,5 @@
-use borrow.Author.Needs.{needs}
-use Prim.Native.Nat.{ℕ}
-use mathlib.Core.Path.{_≡_, refl}
-use mathlib.Core.List.{List}
-use denote.Ref.{now}
-use Rattle.text.specs.Res.{ok, no}
-use Rattle.text.proofs.Steps.{came, on, off, pass, stop, yes=, no=}
-use Rattle.text.specs.Line.{cut, columns}
+use Rattle.text.specs.Prelude.{ℕ, _≡_, List, now, ok, no, cut, columns}
+use Rattle.text.proofs.Prelude.{needs, refl, came, on, off, pass, stop, yes=, no=}
 use Rattle.field.specs.Field.{sized}
 use Rattle.coord.specs.Coord.{latitudeRes, longitudeRes, latitudeIn, longitudeIn, readBoth, positionIn}
 use Rattle.coord.proofs.position.RawPosition.parse_ascii.Statement.{statement}
@@ -36,18 +30,8 @@ parse-ascii-spec =
     tie.close
     (tie.spec
     (λ c. stop _ (no= (search needs)))
-    (search needs)
-    (search needs)
-    (search needs)
-    (search needs)
-    (search needs)
-    (search needs)
+    (search needs) (search needs) (search needs) (search needs) (search needs) (search needs)
     (λ c. pass _ (yes= (search needs)) (off _ (no-lat (search needs))))
-    (search needs)
-    (search needs)
-    (search needs)
-    (search needs)
-    (search needs)
-    (search needs)
+    (search needs) (search needs) (search needs) (search needs) (search needs) (search needs)
     (λ c. pass _ (yes= (search needs)) (on _ (lat (search needs)) (on _ (lon (search needs)) refl)))
     (λ c. pass _ (yes= (search needs)) (on _ (lat (search needs)) (off _ (no-lon (search needs))))))

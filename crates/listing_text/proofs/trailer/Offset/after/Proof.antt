@@ -1,9 +1,5 @@
-use borrow.Author.Needs.{needs}
-use mathlib.Core.Path.{_≡_, refl, sym, _∙_}
-use mathlib.Core.Bool.{true}
-use denote.Ref.{now}
-use Rattle.text.proofs.Steps.{first, second, yes=, no=}
-use Rattle.text.specs.Line.{begins}
+use Rattle.text.specs.Prelude.{_≡_, true, now, begins}
+use Rattle.text.proofs.Prelude.{needs, refl, sym, _∙_, first, second, yes=, no=}
 use Rattle.listing_text.specs.Trailer.{forceAfter}
 use Rattle.listing_text.proofs.Answers.{number-is}
 use Rattle.listing_text.proofs.trailer.Offset.after.Statement.{statement}
@@ -17,8 +13,9 @@ unfolding forceAfter
 after-spec =
     tie.close
     (tie.spec
-    (search needs)
-    (search needs)
-    (λ c. first _ (i-line (c .before .before)) (first _ (yes= (sym (number-is _ (c .before .number .ensures)) ∙ c .if2 .taken)) refl))
-    (λ c. first _ (i-line (c .before .before)) (second _ (no= (λ e. c .if2 .left (number-is _ (c .before .number .ensures) ∙ e))) refl))
+    (search needs) (search needs)
+    (λ c. first _ (i-line (c .before .before))
+    (first _ (yes= (sym (number-is _ (c .before .number .ensures)) ∙ c .if2 .taken)) refl))
+    (λ c. first _ (i-line (c .before .before))
+    (second _ (no= (λ e. c .if2 .left (number-is _ (c .before .number .ensures) ∙ e))) refl))
     (λ c. second _ (sym (c .before .begins .ensures) ∙ c .if1 .left) refl))

@@ -1,4 +1,4 @@
-use borrow.Author.Needs.{needs}
+use Rattle.text.proofs.Prelude.{needs}
 use Rattle.listing_text.specs.Line.{plain}
 use Rattle.listing_text.specs.Trailer.{offsetText}
 use Rattle.listing_text.proofs.trailer.Offset.put.Statement.{statement}
@@ -9,11 +9,7 @@ unfolding offsetText plain
 put-spec =
     tie.close
     (tie.spec
-    (search needs)
-    (search needs)
-    (search needs)
-    (search needs)
-    (search needs)
+    (search needs) (search needs) (search needs) (search needs) (search needs)
     (λ c. rw (c .before .before .before .before .enum-told .given .1) (c .before .before .put-byte .ensures))
     (search needs)
     (λ c. rw (c .before .before .before .before .before .self .given .1) (c .before .before .put-nat .ensures)))

@@ -1,9 +1,6 @@
-use borrow.Author.Needs.{needs}
-use mathlib.Core.Path.{_≡_, refl, sym, _∙_}
+use Rattle.text.specs.Prelude.{pick}
+use Rattle.text.proofs.Prelude.{needs, arith, refl, sym, _∙_, first, second, yes≤, no≤, holds, fails}
 use native.Mathlib.Nat.{add-zero}
-use native.Mathlib.Omega.{arith}
-use Rattle.text.specs.Res.{pick}
-use Rattle.text.proofs.Steps.{first, second, yes≤, no≤, holds, fails}
 use Rattle.listing_text.specs.Trailer.{counted, tallied}
 use Rattle.listing_text.proofs.trailer.Trailer.after.Statement.{statement}
 use Rattle.listing_text.proofs.trailer.Trailer.after.Tie as tie
@@ -21,14 +18,17 @@ unfolding tallied counted pick
 refused c =
     let asked = c .before .before in
     let after = asked .before .before in
-    first _ (holds (yes≤ (omega arith)) (yes≤ (omega arith))) (rw (sym (asked .is-refusal .ensures) ∙ c .before .if3 .taken, after .after .ensures))
+    first _ (holds (yes≤ (omega arith)) (yes≤ (omega arith)))
+    (rw (sym (asked .is-refusal .ensures) ∙ c .before .if3 .taken, after .after .ensures))
 
 taken : tie.Need-returns-4
 unfolding tallied counted pick
 taken c =
     let asked = c .before in
     let after = asked .before .before in
-    first _ (holds (yes≤ (omega arith)) (yes≤ (omega arith))) (rw (sym (asked .is-refusal .ensures) ∙ c .if3 .left, after .after .ensures, add-zero))
+    first _ (holds (yes≤ (omega arith)) (yes≤ (omega arith)))
+    (rw (sym (asked .is-refusal .ensures) ∙ c .if3 .left, after .after .ensures, add-zero))
 
 pub after-spec : {M : Type 1} → statement M
-after-spec = tie.close (tie.spec lines-full refused-full (search needs) (search needs) (search needs) (search needs) refused taken)
+after-spec = tie.close (tie.spec lines-full refused-full (search needs) (search needs) (search needs) (search needs)
+    refused taken)

@@ -1,4 +1,4 @@
-use mathlib.Core.Path.{refl}
+use Rattle.text.proofs.Prelude.{refl}
 use Rattle.listing_text.specs.Trailer.{nothing}
 use Rattle.listing_text.proofs.trailer.Trailer.new.Statement.{statement}
 use Rattle.listing_text.proofs.trailer.Trailer.new.Tie as tie

@@ -1,4 +1,4 @@
-use borrow.Author.Needs.{needs}
+use Rattle.text.proofs.Prelude.{needs}
 use Rattle.put.proofs.Writing.{then}
 use Rattle.listing_text.specs.Trailer.{trailerText}
 use Rattle.listing_text.proofs.trailer.Trailer.put.Statement.{statement}
@@ -12,7 +12,10 @@ returns c =
     let space = offset .before .before .before .before in
     let counts = space .before .before .before .before in
     let letter = counts .before .before .before .before in
-    then (letter .put-byte .ensures) (then (counts .put-counts .ensures) (then (space .put-byte2 .ensures) (then (offset .put .ensures) (lf .put-byte3 .ensures))))
+    then (letter .put-byte .ensures)
+    (then (counts .put-counts .ensures)
+    (then (space .put-byte2 .ensures) (then (offset .put .ensures) (lf .put-byte3 .ensures))))
 
 pub put-spec : {M : Type 1} → statement M
-put-spec = tie.close (tie.spec (search needs) (search needs) (search needs) (search needs) (search needs) (search needs) returns)
+put-spec = tie.close (tie.spec (search needs) (search needs) (search needs) (search needs) (search needs) (search needs)
+    returns)

@@ -1,4 +1,4 @@
-use borrow.Author.Needs.{needs}
+use Rattle.text.proofs.Prelude.{needs}
 use Rattle.put.proofs.Writing.{then}
 use Rattle.listing_text.specs.Line.{plain}
 use Rattle.listing_text.specs.Trailer.{figures}
@@ -12,7 +12,9 @@ returns c =
     let second = refused .before .before .before .before in
     let lines = second .before .before .before .before in
     let first = lines .before .before .before .before in
-    then (first .put-byte .ensures) (then (lines .put-nat .ensures) (then (second .put-byte2 .ensures) (refused .put-nat2 .ensures)))
+    then (first .put-byte .ensures)
+    (then (lines .put-nat .ensures) (then (second .put-byte2 .ensures) (refused .put-nat2 .ensures)))
 
 pub put-counts-spec : {M : Type 1} → statement M
-put-counts-spec = tie.close (tie.spec (search needs) (search needs) (search needs) (search needs) (search needs) returns)
+put-counts-spec =
+    tie.close (tie.spec (search needs) (search needs) (search needs) (search needs) (search needs) returns)

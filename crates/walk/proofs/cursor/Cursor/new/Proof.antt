@@ -1,4 +1,4 @@
-use mathlib.Core.Path.{refl}
+use Rattle.text.proofs.Prelude.{refl}
 use Rattle.walk.specs.Cursor.{start}
 use Rattle.walk.proofs.cursor.Cursor.new.Statement.{statement}
 use Rattle.walk.proofs.cursor.Cursor.new.Tie as tie

@@ -1,7 +1,4 @@
-use borrow.Author.Needs.{needs}
-use mathlib.Core.Path.{refl, ap}
-use native.Mathlib.Omega.{arith}
-use Rattle.text.proofs.Steps.{first, second, yes≤, no≤, and, holds, fails}
+use Rattle.text.proofs.Prelude.{needs, arith, refl, ap, first, second, yes≤, no≤, holds, fails, and}
 use Rattle.log.specs.declared.Cut.{Cut}
 use Rattle.walk.specs.Cursor.{past, nextOf}
 use Rattle.walk.specs.declared.cursor.Next.the-variants.{Line}
@@ -19,8 +16,7 @@ unfolding nextOf
 next-spec =
     tie.close
     (tie.spec
-    (search needs)
-    (search needs)
+    (search needs) (search needs)
     taken
     (λ c. second _ (holds (yes≤ (omega arith)) (no≤ (omega arith))) refl)
     (λ c. second _ (fails _ (no≤ (omega arith))) refl))

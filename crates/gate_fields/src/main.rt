@@ -1,0 +1,12 @@
+// The readings of document 01 of fields that are run and not proved, each with its answer number. What this writes is
+// held to ../stdout.
+mod fields;
+
+fn main() {
+    fields::times();
+    fields::dates();
+    fields::coordinates();
+    fields::positions();
+    fields::made();
+    fields::extensions();
+}

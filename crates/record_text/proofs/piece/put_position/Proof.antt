@@ -1,9 +1,0 @@
-use borrow.Author.Needs.{needs}
-use Rattle.put.proofs.Writing.{then}
-use Rattle.record_text.specs.Piece.{positionShown}
-use Rattle.record_text.proofs.piece.put_position.Statement.{statement}
-use Rattle.record_text.proofs.piece.put_position.Tie as tie
-
-pub put-position-spec : {M : Type 1} → statement M
-unfolding positionShown
-put-position-spec = tie.close (tie.spec (search needs) (search needs) (search needs) (λ c. search (then)))

@@ -1,9 +1,0 @@
-use borrow.Author.Needs.{needs}
-use Rattle.put.proofs.Writing.{then}
-use Rattle.record_text.specs.Record.{bShown}
-use Rattle.record_text.proofs.record.put_b.Statement.{statement}
-use Rattle.record_text.proofs.record.put_b.Tie as tie
-
-pub put-b-spec : {M : Type 1} → statement M
-unfolding bShown
-put-b-spec = tie.close (tie.spec (search needs) (search needs) (search needs) (search needs) (search needs) (λ c. search (then)))

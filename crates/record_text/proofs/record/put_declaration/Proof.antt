@@ -1,9 +1,0 @@
-use borrow.Author.Needs.{needs}
-use Rattle.put.proofs.Writing.{then}
-use Rattle.record_text.specs.Record.{declarationShown}
-use Rattle.record_text.proofs.record.put_declaration.Statement.{statement}
-use Rattle.record_text.proofs.record.put_declaration.Tie as tie
-
-pub put-declaration-spec : {M : Type 1} → statement M
-unfolding declarationShown
-put-declaration-spec = tie.close (tie.spec (search needs) (search needs) (search needs) (search needs) (search needs) (λ c. search (then)))

@@ -1,9 +1,0 @@
-use borrow.Author.Needs.{needs}
-use Rattle.put.proofs.Writing.{then}
-use Rattle.record_text.specs.Record.{tableShown}
-use Rattle.record_text.proofs.record.put_table.Statement.{statement}
-use Rattle.record_text.proofs.record.put_table.Tie as tie
-
-pub put-table-spec : {M : Type 1} → statement M
-unfolding tableShown
-put-table-spec = tie.close (tie.spec (search needs) (search needs) (search needs) (search needs) (λ c. search (then)))

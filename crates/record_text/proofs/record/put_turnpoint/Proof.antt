@@ -1,9 +1,0 @@
-use borrow.Author.Needs.{needs}
-use Rattle.put.proofs.Writing.{then}
-use Rattle.record_text.specs.Record.{turnpointShown}
-use Rattle.record_text.proofs.record.put_turnpoint.Statement.{statement}
-use Rattle.record_text.proofs.record.put_turnpoint.Tie as tie
-
-pub put-turnpoint-spec : {M : Type 1} → statement M
-unfolding turnpointShown
-put-turnpoint-spec = tie.close (tie.spec (search needs) (search needs) (search needs) (λ c. search (then)))
