@@ -26,7 +26,7 @@ use Rattle.b_quick.specs.Quick.{plainDigits}
 pub record Digits (a b : ℕ) (s : List ℕ) : Type 0 where
   pub some : a < b
   pub all : allDigits (cut a b s) ≡ true
-  pub wide : length (cut a b s) ≡ b - a
+  pub columns-long : length (cut a b s) ≡ b - a
 
 -- columns of digits have digits in them
 digits-in : (a b c d : ℕ) (s : List ℕ) →
@@ -35,7 +35,7 @@ unfolding cut
 digits-in a b c d s i h = record {
   some = omega arith;
   all = cut-digits a b c d s (i .1) h;
-  wide = simp (length-take, length-drop) (omega arith);
+  columns-long = simp (length-take, length-drop) (omega arith);
 }
 
 -- the nine numbers of a fix, each in a block that holds it
@@ -73,13 +73,13 @@ plain-numbers s l h =
 -- they are at most five, as the code asks
 pub at-most-five : {a b : ℕ} {s : List ℕ} → Digits a b s → b - a ≤ 5 → (allDigits (cut a b s) ≡ true)
     × (length (cut a b s) ≤ 5)
-at-most-five d h = (d .all, omega (arith, d .wide))
+at-most-five d h = (d .all, omega (arith, d .columns-long))
 
 -- ---- numbers of digits alone
 
 -- the value that the code makes of digits
 pub digits-written : {a b v : ℕ} {s : List ℕ} → Digits a b s → v ≡ valueFrom 0 (cut a b s) → Written (cut a b s) v
-digits-written d e = record { some = omega (arith, d .some, d .wide); digits = d .all; value = e }
+digits-written d e = record { some = omega (arith, d .some, d .columns-long); digits = d .all; value = e }
 
 -- v is the value of the digits from a up to b, and at most most
 pub record Number (a b most : ℕ) (s : List ℕ) (v : ℕ) : Type 0 where
@@ -94,7 +94,8 @@ number-within w h = record { digits = w; fits = h }
 pub two-digits-fit : {a b v : ℕ} {s : List ℕ} → Digits a b s → v ≡ valueFrom 0 (cut a b s) → b - a ≤ 2
     → Number a b 255 s v
 two-digits-fit {a} {b} {s = s} d e h =
-    number-within (digits-written d e) (omega (arith, value-below 2 (cut a b s) (d .all) (omega (arith, d .wide))))
+    number-within (digits-written d e)
+    (omega (arith, value-below 2 (cut a b s) (d .all) (omega (arith, d .columns-long))))
 
 -- such a number is read in the columns of a field
 nat-in : (a b c d : ℕ) {most v : ℕ} (s : List ℕ) →

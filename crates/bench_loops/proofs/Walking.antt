@@ -8,7 +8,7 @@ use Rattle.records.specs.declared.Reading.{Reading}
 use Rattle.log.specs.Line.{cutAt}
 use Rattle.log.specs.Fold.{Carried, fresh}
 use Rattle.log.proofs.Cuts.{cut-viewed}
-use Rattle.log.proofs.Reached.{Reached, few, line, nearer}
+use Rattle.log.proofs.Reached.{Reached, few, line, less-left}
 use Rattle.held.specs.declared.Held.{Held}
 use Rattle.walk.specs.Cursor.{past}
 use Rattle.walk.specs.Walk.{readingOf, stepOf}
@@ -48,6 +48,6 @@ module _ {T : Type 0} {step : T → Line-read → T} {a₀ a : T} {s : List ℕ}
   unfolding past
   step-turn m = rw step-here (line i r refl (sym (cut-viewed s _ (r .inside))) (omega arith) refl (m _ _))
 
-  pub step-nearer : length s - t .walk .at .place < length s - w .at .place
+  pub step-less-left : length s - t .walk .at .place < length s - w .at .place
   unfolding past
-  step-nearer = rw step-here (nearer r i refl)
+  step-less-left = rw step-here (less-left r i refl)

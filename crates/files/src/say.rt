@@ -15,11 +15,11 @@ fn message_buffer() -> [u8; 8192]
 }
 
 // The program, the file, and what about it.
-fn put_start(file: &[u8], what: &[u8], buf: &mut [u8]) -> usize {
-    let name = put_bytes(buf, 0, b"tokelivo: ");
-    let colon = put_bytes(buf, name, file);
-    let words = put_bytes(buf, colon, b": ");
-    let end = put_bytes(buf, words, what);
+fn put_start(buf: &mut [u8], file: &[u8], what: &[u8]) -> usize {
+    let at_name = put_bytes(buf, 0, b"tokelivo: ");
+    let at_colon = put_bytes(buf, at_name, file);
+    let at_words = put_bytes(buf, at_colon, b": ");
+    let end = put_bytes(buf, at_words, what);
     make_visible(buf);
     end
 }
@@ -27,7 +27,7 @@ fn put_start(file: &[u8], what: &[u8], buf: &mut [u8]) -> usize {
 // What went wrong, and why, as errno has it.
 pub fn fail(file: &[u8], what: &[u8]) {
     let mut text = message_buffer();
-    let end = put_start(file, what, &mut text);
+    let end = put_start(&mut text, file, what);
     if end <= text.len() {
         os::fail(&text[0..end]);
     }
@@ -36,11 +36,11 @@ pub fn fail(file: &[u8], what: &[u8]) {
 // What went wrong at a line of the log, by the number of lines before it.
 fn fail_at(file: &[u8], before: u64, what: &[u8]) {
     let mut text = message_buffer();
-    let number = put_start(file, b"line ", &mut text);
+    let at_number = put_start(&mut text, file, b"line ");
     if before < 0xffff_ffff_ffff_ffff {
-        let words = put_nat(&mut text, number, before + 1, 1);
-        let lf = put_bytes(&mut text, words, what);
-        let end = put_bytes(&mut text, lf, b"\n");
+        let at_words = put_nat(&mut text, at_number, before + 1, 1);
+        let at_lf = put_bytes(&mut text, at_words, what);
+        let end = put_bytes(&mut text, at_lf, b"\n");
         if end <= text.len() {
             write_all(2, &text[0..end]);
         }

@@ -119,8 +119,8 @@ module _ {A H T : Type 0} {R : Reader A H} {step : T → LineRead A H → T} whe
             append-nil,
           )
 
-      pub nearer : {cut : Cut} → cut ≡ cutAt at s → length s - cut .next < length s - at
-      nearer e = rw e (omega (arith, next-gt s at p, next-le s at (r .inside)))
+      pub less-left : {cut : Cut} → cut ≡ cutAt at s → length s - cut .next < length s - at
+      less-left e = rw e (omega (arith, next-gt s at p, next-le s at (r .inside)))
 
   -- the same of the line as the code cuts it and views it, with h′ held after it and a′ made of it
   pub line : {c₀ : Carried H T} {s l : List ℕ} {at n p p′ : ℕ} {h h′ : H} {a a′ : T} {cut : Cut}

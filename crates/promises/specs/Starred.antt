@@ -1,5 +1,5 @@
 -- The starred readings of document 01, "Readings at the edges", one after the other as one list.
-use Rattle.text.specs.Prelude.{_≡_, ok, no, bind, readInt, signed}
+use Rattle.text.specs.Prelude.{code, _≡_, ok, no, bind, readInt, signed}
 use Rattle.part.specs.Part.{textOf}
 use Rattle.text.specs.declared.refusal.Refusal.the-variants.{Syntax, UnreadableNumber, OutOfRange, BadExtension}
 use Rattle.part.specs.declared.MaybePart.{MaybePart}
@@ -36,7 +36,7 @@ pub record Starred : Type 0 where
   pub line-A123456 :
       readLine (spelt "A123456")
       ≡ ok (Record.A (record {
-        manufacturer = UnknownSingle 49;
+        manufacturer = UnknownSingle (code "1");
         «unique_id» = record { start = 2; len = 5 };
         «id_extension» = MaybePart.Missing;
       }))
@@ -61,7 +61,9 @@ pub record Starred : Type 0 where
   pub line-I013836FXA : readLine (spelt "I013836FXA") ≡ no BadExtension
   -- Rest `035`: 36 to 38 gives `035`.
   pub value-36-38 :
-      textOf (findValue 35 (record { start = 0; len = 3 })
-      (record { «start_byte» = 36; «end_byte» = 38; mnemonic = record { 0 = 70; 1 = 88; 2 = 65 } }) (spelt "035"))
+      textOf
+      (findValue 35 (record { start = 0; len = 3 })
+      (record { «start_byte» = 36; «end_byte» = 38; mnemonic = record { 0 = code "F"; 1 = code "X"; 2 = code "A" } })
+      (spelt "035"))
       (spelt "035")
       ≡ ok (spelt "035")

@@ -71,7 +71,7 @@ module _ {T : Type 0} {step : T → Line-read → T} {c₀ : Carried Held T} {s 
   text-turn f = let k = cut-here in rw (k .0, k .1) (rw e (log.text-next r i f))
 
   pub less-left : length s - g .next < length s - at
-  less-left = log.nearer r i (cut-of at s e)
+  less-left = log.less-left r i (cut-of at s e)
 
 -- ---- a product of a whole log that looks at no line's number and at no table
 

@@ -6,7 +6,7 @@ use Rattle.walk.specs.Cursor.{start}
 use Rattle.walk.specs.Walk as walk
 use Rattle.walk.specs.Readings.{reader}
 use Rattle.bench_loops.specs.Timed.{summed, readStep, readSum}
-use Rattle.bench_loops.proofs.Walking.{carriedBy, not-done, step-read, step-turn, step-nearer}
+use Rattle.bench_loops.proofs.Walking.{carriedBy, not-done, step-read, step-turn, step-less-left}
 use Rattle.bench_loops.proofs.timed_step.Statement.{statement}
 use Rattle.bench_loops.proofs.timed_step.Tie as tie
 
@@ -33,7 +33,7 @@ loop-less c =
     let step = c .before .before .before .before .before .before in
     let test = step .before in
     let inv = test .before .before .loop .inv in
-    step-nearer (inv .1) (test .if1 .taken) (inv .0) (step .step .ensures)
+    step-less-left (inv .1) (test .if1 .taken) (inv .0) (step .step .ensures)
 
 loop-again : tie.Need-loop-again Inv-loop μ-loop
 unfolding readStep summed

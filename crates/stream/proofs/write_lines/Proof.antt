@@ -44,8 +44,8 @@ not-written c =
 abbrev written : (c : tie.After-carried Inv-loop μ-loop) → tie.After-put-lines Inv-loop μ-loop
 written c = c .before .before .before .before .before .before .before .before .before .before
 
-nearer : tie.Need-loop-less Inv-loop μ-loop
-nearer c =
+less-left : tie.Need-loop-less Inv-loop μ-loop
+less-left c =
     let some = c .before .before .before .before .before .before .before .if1 .left in
     omega (arith, more (written c) .0 .inside, some)
 
@@ -66,7 +66,7 @@ write-lines-spec =
     (search needs) (search needs) (search needs)
     not-written
     (λ c. omega (arith, more (written c) .0 .inside, written c .before .before .before .before .loop .inv .2))
-    nearer
+    less-left
     again
     (search needs)
     (λ c. went-on (c .before .loop .inv .0) (c .loop-test .left)))

@@ -4,9 +4,9 @@ use Rattle.words.proofs.run_fields.Statement.{statement}
 use Rattle.words.proofs.run_fields.Tie as tie
 
 -- names that were read are at most 4,096
-few : (c : tie.Then2) →
+at-most-4096 : (c : tie.Then2) →
     let args = c .before .before .before .before .before .before .args in args .words - args .at - 2 ≤ 4096
-few c = c .before .before .read-names .ensures (c .if2 .taken)
+at-most-4096 c = c .before .before .read-names .ensures (c .if2 .taken)
 
 pub run-fields-spec : {M : Type 1} → statement M
 run-fields-spec =
@@ -14,8 +14,8 @@ run-fields-spec =
     (tie.spec
     (search needs) (search needs) (search needs) (search needs) (search needs) (search needs) (search needs)
     (search needs) (search needs) (search needs)
-    (λ c. omega (arith, few c))
+    (λ c. omega (arith, at-most-4096 c))
     (search needs) (search needs)
-    (λ c. let h = few (c .before) in search needs)
+    (λ c. let h = at-most-4096 (c .before) in search needs)
     (search needs) (search needs)
     (search needs))

@@ -10,8 +10,8 @@ Inv-loop text₀ i₀ text i = Showing text₀ i text
 abbrev μ-loop : tie.MeasureT-loop
 μ-loop text₀ i₀ text i = length text₀ - i
 
-nearer : tie.Need-loop-less Inv-loop μ-loop
-nearer c = let test = c .before .before in omega (arith, test .loop-test .taken, test .before .loop .inv .long)
+less-left : tie.Need-loop-less Inv-loop μ-loop
+less-left c = let test = c .before .before in omega (arith, test .loop-test .taken, test .before .loop .inv .long)
 
 next : tie.Need-loop-again Inv-loop μ-loop
 next c =
@@ -27,7 +27,7 @@ make-visible-spec =
     μ-loop
     (λ c. at-start)
     (search needs) (search needs) (search needs) (search needs)
-    nearer
+    less-left
     next
     (λ c. c .before .loop .inv .long)
     (λ c. let f = c .before .loop .inv in all-shown f (omega (arith, c .loop-test .left, f .long))))
