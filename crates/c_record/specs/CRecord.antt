@@ -1,4 +1,4 @@
--- C lines: a task's declaration and its turnpoints.
+-- C lines: which of them is a turnpoint's, and a task's declaration.
 use Rattle.text.specs.Prelude.{ℕ, code, Bool, true, List, [], _∷_, _++_, length, replicate, Res, ok, no, bind, guard}
 use Rattle.text.specs.Prelude.{pick, _≤?_, _=?_, _∧?_, _∨?_, byte, cut, columns, readNat, readInt, zeros, padded}
 use Rattle.text.specs.Prelude.{signed}
@@ -7,10 +7,8 @@ use Rattle.text.specs.declared.refusal.Refusal.the-variants.{Syntax}
 use Rattle.field.specs.Field.{asciiIn}
 use Rattle.datetime.specs.Time.{readTime, timeText, timeBook}
 use Rattle.datetime.specs.Date.{readDate, dateText, dateBook}
-use Rattle.coord.specs.Coord.{readPosition, positionText, positionBook}
 use Rattle.c_record.specs.declared.{MaybeDate.MaybeDate, FlightRead.FlightRead, Task.Task, TaskRead.TaskRead}
 use Rattle.c_record.specs.declared.{CRecordDeclaration.CRecordDeclaration, DeclarationRead.DeclarationRead}
-use Rattle.c_record.specs.declared.{CRecordTurnpoint.CRecordTurnpoint, TurnpointRead.TurnpointRead}
 use Rattle.c_record.specs.declared.MaybeDate.the-variants.{Missing, On}
 
 -- N or S at column 8 makes a turnpoint.
@@ -81,33 +79,6 @@ flightBook (On d) = dateBook d
 unfoldable pub declarationBook : CRecordDeclaration → Bool
 declarationBook r = dateBook (r .date) ∧? timeBook (r .time) ∧? flightBook (r .«flight_date»)
 
--- ---- turnpoints
-
--- 18 bytes (1), the first C (1), those ASCII (2), position 1-18, name; an empty name is none.
-unfoldable pub readTurnpoint : List ℕ → Res CRecordTurnpoint
-readTurnpoint s =
-    guard (18 ≤? length s) Syntax
-    (guard (byte 0 s =? code "C") Syntax
-    (asciiIn (cut 0 18 s)
-    (bind (columns 1 18 readPosition s) (λ pos.
-    ok (record { position = pos; «turnpoint_name» = nameFrom 18 s })))))
-
--- The letter, the position, the name.
-unfoldable pub turnpointBody : CRecordTurnpoint → List ℕ → List ℕ
-turnpointBody r name = (code "C" ∷ []) ++ (positionText (r .position) ++ name)
-
--- The same with the parts that the line has; one that lies outside is left out.
-abbrev pub turnpointPiece : CRecordTurnpoint → List ℕ → List ℕ
-turnpointPiece r s = turnpointBody r (maybeBytes (r .«turnpoint_name») s)
-
--- The text of a turnpoint beside its line; 9 where the name lies outside.
-unfoldable pub turnpointText : CRecordTurnpoint → List ℕ → Res (List ℕ)
-turnpointText r s = bind (maybeText (r .«turnpoint_name») s) (λ name. ok (turnpointBody r name))
-
--- By the book: its position is.
-unfoldable pub turnpointBook : CRecordTurnpoint → Bool
-turnpointBook r = positionBook (r .position)
-
 -- ---- the answers of the code
 
 abbrev pub flightRes : FlightRead → Res MaybeDate
@@ -121,7 +92,3 @@ taskRes (TaskRead.Refused n) = no n
 abbrev pub declarationRes : DeclarationRead → Res CRecordDeclaration
 declarationRes (DeclarationRead.Ok v) = ok v
 declarationRes (DeclarationRead.Refused n) = no n
-
-abbrev pub turnpointRes : TurnpointRead → Res CRecordTurnpoint
-turnpointRes (TurnpointRead.Ok v) = ok v
-turnpointRes (TurnpointRead.Refused n) = no n

@@ -1,6 +1,4 @@
-// C lines, as src/records/c_record.rs has them.
-pub mod turnpoint;
-
+// C lines, as src/records/c_record.rs has them: which of them is a turnpoint's, and a task's declaration.
 ghost use mathlib.Core.Path.{_≡_};
 ghost use Prim.Native.Nat.{_≤_};
 ghost use lib.ListN.{length};
@@ -11,7 +9,6 @@ ghost use Rattle.print.specs.Print.{Prints};
 ghost use Rattle.c_record.specs.CRecord.{turns, readFlight, readTask, readDeclaration, flightText, taskText};
 ghost use Rattle.c_record.specs.CRecord.{declarationPiece, declarationText, flightBook, declarationBook};
 ghost use Rattle.c_record.specs.CRecord.{flightRes, taskRes, declarationRes};
-use coord::position::RawPosition;
 use datetime::Date;
 use datetime::DateRead;
 use datetime::Time;
@@ -46,11 +43,6 @@ pub struct CRecordDeclaration {
     pub flight_date: MaybeDate,
 }
 
-pub struct CRecordTurnpoint {
-    pub turnpoint_name: MaybePart,
-    pub position: RawPosition,
-}
-
 struct Task {
     id: u16,
     count: i8,
@@ -68,11 +60,6 @@ enum TaskRead {
 
 pub enum DeclarationRead {
     Ok(CRecordDeclaration),
-    Refused(Refusal),
-}
-
-pub enum TurnpointRead {
-    Ok(CRecordTurnpoint),
     Refused(Refusal),
 }
 

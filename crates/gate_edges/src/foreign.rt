@@ -2,9 +2,9 @@
 use a_record::ARead;
 use a_record::ARecord;
 use c_record::CRecordDeclaration;
-use c_record::CRecordTurnpoint;
 use c_record::DeclarationRead;
-use c_record::TurnpointRead;
+use c_turnpoint_record::CRecordTurnpoint;
+use c_turnpoint_record::TurnpointRead;
 use gate_say as say;
 use h_record::HRead;
 use h_record::HRecord;

@@ -10,7 +10,8 @@ use Rattle.coord.proofs.Answers.{latitude-undone, longitude-undone, position-un
 use Rattle.extension.proofs.Answers.{extension-undone}
 use Rattle.a_record.proofs.Answers.{a-undone}
 use Rattle.b_record.proofs.Answers.{fix-undone, b-undone}
-use Rattle.c_record.proofs.Answers.{declaration-undone, turnpoint-undone}
+use Rattle.c_record.proofs.Answers.{declaration-undone}
+use Rattle.c_turnpoint_record.proofs.Answers.{turnpoint-undone}
 use Rattle.h_record.proofs.Answers.{h-undone}
 use Rattle.records.proofs.Answers.{reading-undone}
 use Rattle.bench_loops.specs.Timed.{Out}

@@ -16,7 +16,8 @@ use Rattle.table.specs.Table.{tableRead}
 use Rattle.a_record.specs.ARecord.{aNew, aOf, letterForm, readA, tripleText, aBody, aText}
 use Rattle.b_record.specs.BRecord.{validLetter, validOf, readHeights, readFix, readB, tailText, bBody, bText}
 use Rattle.c_record.specs.CRecord.{turns, readFlight, readTask, readDeclaration, flightText, taskText, declarationBody}
-use Rattle.c_record.specs.CRecord.{declarationText, readTurnpoint, turnpointBody, turnpointText}
+use Rattle.c_record.specs.CRecord.{declarationText}
+use Rattle.c_turnpoint_record.specs.CTurnpoint.{readTurnpoint, turnpointBody, turnpointText}
 use Rattle.records.specs.Record.{kindOf, readC, readKind, readLine, recordText, recordTable, answerPrinted, reprinted}
 use Rattle.promises.specs.Spelt.{speltFrom, spelt}
 use Rattle.promises.specs.Back.{Needed}

@@ -9,7 +9,8 @@ use Rattle.table.specs.Table.{readTable, tableRead, tableText}
 use Rattle.table.specs.declared.Table.{Table}
 use Rattle.a_record.specs.ARecord.{aText}
 use Rattle.b_record.specs.BRecord.{bText}
-use Rattle.c_record.specs.CRecord.{declarationText, turnpointText}
+use Rattle.c_record.specs.CRecord.{declarationText}
+use Rattle.c_turnpoint_record.specs.CTurnpoint.{turnpointText}
 use Rattle.h_record.specs.HRecord.{hText}
 use Rattle.records.specs.Record.{readLine, recordText, recordPiece, recordTable, answerPrinted, reprinted}
 use Rattle.records.specs.declared.Record.{Record}

@@ -6,7 +6,8 @@ use Rattle.text.proofs.Finds.{Finds, finds-ok, finds-bind, finds-guard, finds-p
 use Rattle.field.specs.Field.{asciiIn}
 use Rattle.text.proofs.Lines.{cut-length}
 use Rattle.c_record.specs.CRecord.{readFlight, flightText, readTask, taskText, readDeclaration, declarationBody}
-use Rattle.c_record.specs.CRecord.{declarationText, readTurnpoint, turnpointBody, turnpointText}
+use Rattle.c_record.specs.CRecord.{declarationText}
+use Rattle.c_turnpoint_record.specs.CTurnpoint.{readTurnpoint, turnpointBody, turnpointText}
 use Rattle.promises.specs.Odd.{threePlus, signedOdd, declarationOdd, turnpointOdd}
 use Rattle.promises.proofs.Columns.{finds-columns}
 use Rattle.promises.proofs.Copies.{Copy, copy-itself, copy-columns, copy-rest, copy-letter}

@@ -15,7 +15,8 @@ use Rattle.coord.specs.Coord.{latitudeRes, longitudeRes, positionRes}
 use Rattle.extension.specs.Extension.{extensionRes}
 use Rattle.a_record.specs.ARecord.{aRes}
 use Rattle.b_record.specs.BRecord.{validRes, bRes}
-use Rattle.c_record.specs.CRecord.{declarationRes, turnpointRes}
+use Rattle.c_record.specs.CRecord.{declarationRes}
+use Rattle.c_turnpoint_record.specs.CTurnpoint.{turnpointRes}
 use Rattle.h_record.specs.HRecord.{hRes}
 use Rattle.records.specs.Record.{readingRes}
 use Rattle.log.specs.Log.{Reader, LineRead}

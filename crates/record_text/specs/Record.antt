@@ -8,7 +8,8 @@ use Rattle.table.specs.declared.Table.{Table}
 use Rattle.a_record.specs.declared.ARecord.{ARecord}
 use Rattle.b_record.specs.BRecord.{validLetter}
 use Rattle.b_record.specs.declared.BRecord.{BRecord}
-use Rattle.c_record.specs.declared.{CRecordDeclaration.CRecordDeclaration, CRecordTurnpoint.CRecordTurnpoint}
+use Rattle.c_record.specs.declared.CRecordDeclaration.{CRecordDeclaration}
+use Rattle.c_turnpoint_record.specs.declared.CRecordTurnpoint.{CRecordTurnpoint}
 use Rattle.h_record.specs.HRecord.{sourceByte}
 use Rattle.h_record.specs.declared.HRecord.{HRecord}
 use Rattle.records.specs.declared.Record.{Record}

@@ -19,7 +19,7 @@ use crate::value::show_values;
 use a_record::ARecord;
 use b_record::BRecord;
 use c_record::CRecordDeclaration;
-use c_record::CRecordTurnpoint;
+use c_turnpoint_record::CRecordTurnpoint;
 use extension::Extension;
 use h_record::HRecord;
 use held::Held;

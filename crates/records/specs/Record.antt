@@ -9,7 +9,7 @@ use Rattle.table.specs.declared.Table.{Table}
 use Rattle.a_record.specs.ARecord.{readA, aPiece, aText}
 use Rattle.b_record.specs.BRecord.{readB, bPiece, bText, bBook}
 use Rattle.c_record.specs.CRecord.{turns, readDeclaration, declarationPiece, declarationText, declarationBook}
-use Rattle.c_record.specs.CRecord.{readTurnpoint, turnpointPiece, turnpointText, turnpointBook}
+use Rattle.c_turnpoint_record.specs.CTurnpoint.{readTurnpoint, turnpointPiece, turnpointText, turnpointBook}
 use Rattle.h_record.specs.HRecord.{readH, hPiece, hText}
 use Rattle.records.specs.declared.{Record.Record, MaybeFix.MaybeFix, Reading.Reading}
 

@@ -1,6 +1,7 @@
 use Rattle.text.specs.Prelude.{ℕ, _≤_, _≡_, true, false, List, length, now, ok, no}
 use Rattle.text.proofs.Prelude.{needs, refl, sym, _∙_, came, on, off, pass, stop, first, second, yes≤, no≤}
-use Rattle.c_record.specs.CRecord.{turns, readDeclaration, readTurnpoint, declarationRes, turnpointRes}
+use Rattle.c_record.specs.CRecord.{turns, readDeclaration, declarationRes}
+use Rattle.c_turnpoint_record.specs.CTurnpoint.{readTurnpoint, turnpointRes}
 use Rattle.records.specs.Record.{readC}
 use Rattle.records.proofs.parse_c.Statement.{statement}
 use Rattle.records.proofs.parse_c.Tie as tie

@@ -1,12 +1,10 @@
-// Turnpoints of a task.
+// Turnpoints of a task, as src/records/c_record.rs has them.
 ghost use mathlib.Core.Path.{_≡_};
 ghost use Rattle.part.specs.Part.{findMaybe, shown, Shows};
 ghost use Rattle.put.specs.Put.{Wrote};
 ghost use Rattle.print.specs.Print.{Prints};
-ghost use Rattle.c_record.specs.CRecord.{readTurnpoint, turnpointPiece, turnpointText, turnpointBook};
-ghost use Rattle.c_record.specs.CRecord.{turnpointRes};
-use crate::CRecordTurnpoint;
-use crate::TurnpointRead;
+ghost use Rattle.c_turnpoint_record.specs.CTurnpoint.{readTurnpoint, turnpointPiece, turnpointText};
+ghost use Rattle.c_turnpoint_record.specs.CTurnpoint.{turnpointBook, turnpointRes};
 use coord::position::PositionRead;
 use coord::position::RawPosition;
 use field::is_ascii;
@@ -16,6 +14,16 @@ use print::printed::Printed;
 use put::put_byte;
 use put::put_maybe;
 use text::refusal::Refusal;
+
+pub struct CRecordTurnpoint {
+    pub turnpoint_name: MaybePart,
+    pub position: RawPosition,
+}
+
+pub enum TurnpointRead {
+    Ok(CRecordTurnpoint),
+    Refused(Refusal),
+}
 
 impl CRecordTurnpoint {
     // Reads a turnpoint.

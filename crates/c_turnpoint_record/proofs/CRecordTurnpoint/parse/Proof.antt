@@ -2,9 +2,9 @@ use Rattle.text.specs.Prelude.{ℕ, _≡_, true, List, now, ok, no, cut, column
 use Rattle.text.proofs.Prelude.{needs, came, on, off, pass, stop, yes≤, no≤, yes=, no=, so-true, so-false}
 use Rattle.field.specs.Field.{isAscii, asciiIn}
 use Rattle.coord.specs.Coord.{readPosition, positionRes}
-use Rattle.c_record.specs.CRecord.{readTurnpoint}
-use Rattle.c_record.proofs.CRecordTurnpoint.parse.Statement.{statement}
-use Rattle.c_record.proofs.CRecordTurnpoint.parse.Tie as tie
+use Rattle.c_turnpoint_record.specs.CTurnpoint.{readTurnpoint}
+use Rattle.c_turnpoint_record.proofs.CRecordTurnpoint.parse.Statement.{statement}
+use Rattle.c_turnpoint_record.proofs.CRecordTurnpoint.parse.Tie as tie
 
 abbrev line : tie.Start → List ℕ
 line b = now (b .args .line)

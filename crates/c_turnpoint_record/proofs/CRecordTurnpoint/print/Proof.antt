@@ -4,9 +4,9 @@ use Rattle.part.specs.Part.{findMaybe, maybeText, textOf, foundRes}
 use Rattle.part.specs.declared.MaybePart.{MaybePart}
 use Rattle.part.proofs.Parts.{text-found}
 use Rattle.print.proofs.Printing.{refused, no-room, written}
-use Rattle.c_record.specs.CRecord.{turnpointText}
-use Rattle.c_record.proofs.CRecordTurnpoint.print.Statement.{statement}
-use Rattle.c_record.proofs.CRecordTurnpoint.print.Tie as tie
+use Rattle.c_turnpoint_record.specs.CTurnpoint.{turnpointText}
+use Rattle.c_turnpoint_record.proofs.CRecordTurnpoint.print.Statement.{statement}
+use Rattle.c_turnpoint_record.proofs.CRecordTurnpoint.print.Tie as tie
 
 abbrev line : tie.Start → List ℕ
 line b = now (b .args .line)
