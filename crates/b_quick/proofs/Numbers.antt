@@ -13,10 +13,11 @@ use Rattle.field.proofs.Digits.{cut-cut, byte-cut, cut-digits}
 use Rattle.field.proofs.Fields.{columns-of-ascii}
 use Rattle.datetime.specs.Three.{readThree}
 use Rattle.datetime.specs.Time.{timeOf, readTime}
-use Rattle.coord.specs.Coord.{lettered, readCoord, readBoth, readPosition, latitude, longitude, latitudeIn, longitudeIn}
+use Rattle.coord.specs.Coord.{lettered, readCoord, latitude, longitude, latitudeIn, longitudeIn}
 use Rattle.coord.specs.Coord.{latitudeBy, longitudeBy}
 use Rattle.coord.specs.declared.{Compass.Compass, RawCoord.RawCoord, RawLatitude.RawLatitude, RawLongitude.RawLongitude}
 use Rattle.coord.specs.declared.Compass.the-variants.{North, South, East, West}
+use Rattle.position.specs.Position.{readBoth, readPosition}
 use Rattle.b_record.specs.BRecord.{readHeights}
 use Rattle.b_quick.specs.Quick.{plainDigits}
 

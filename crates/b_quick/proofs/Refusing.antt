@@ -7,9 +7,10 @@ use Rattle.text.proofs.Reading.{Written, no-sign}
 use Rattle.field.specs.Field.{sized, asciiIn, ascii, field}
 use Rattle.field.proofs.Digits.{cut-cut}
 use Rattle.datetime.specs.Time.{readTime}
-use Rattle.coord.specs.Coord.{readCoord, latitude, longitude, readBoth, readPosition}
+use Rattle.coord.specs.Coord.{readCoord, latitude, longitude}
 use Rattle.coord.specs.declared.Compass.{Compass}
 use Rattle.coord.specs.declared.Compass.the-variants.{North, South, East, West}
+use Rattle.position.specs.Position.{readBoth, readPosition}
 use Rattle.b_record.specs.BRecord.{validOf, readHeights, readFix}
 use Rattle.b_record.specs.declared.BRecord.{BRecord}
 use Rattle.b_quick.specs.Quick.{fixRead}

@@ -19,12 +19,12 @@ use coord::LatitudeRead;
 use coord::LongitudeRead;
 use coord::RawLatitude;
 use coord::RawLongitude;
-use coord::position::RawPosition;
 use datetime::Time;
 use datetime::TimeRead;
 use field::all_digits;
 use field::is_ascii;
 use part::Part;
+use position::RawPosition;
 
 pub enum Quick {
     Fix(BRecord),

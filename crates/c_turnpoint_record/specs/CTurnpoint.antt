@@ -4,7 +4,7 @@ use Rattle.text.specs.Prelude.{byte, cut, columns}
 use Rattle.part.specs.Part.{nameFrom, maybeText, maybeBytes}
 use Rattle.text.specs.declared.refusal.Refusal.the-variants.{Syntax}
 use Rattle.field.specs.Field.{asciiIn}
-use Rattle.coord.specs.Coord.{readPosition, positionText, positionBook}
+use Rattle.position.specs.Position.{readPosition, positionText, positionBook}
 use Rattle.c_turnpoint_record.specs.declared.{CRecordTurnpoint.CRecordTurnpoint, TurnpointRead.TurnpointRead}
 
 -- 18 bytes (1), the first C (1), those ASCII (2), position 1-18, name; an empty name is none.

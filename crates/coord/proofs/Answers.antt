@@ -2,9 +2,8 @@
 use Rattle.text.specs.Prelude.{_≡_}
 use Rattle.text.proofs.Prelude.{refl}
 use Rattle.text.proofs.Answers.{made}
-use Rattle.coord.specs.Coord.{latitudeRes, longitudeRes, positionRes}
+use Rattle.coord.specs.Coord.{latitudeRes, longitudeRes}
 use Rattle.coord.specs.declared.{LatitudeRead.LatitudeRead, LongitudeRead.LongitudeRead}
-use Rattle.coord.specs.declared.{position.PositionRead.PositionRead}
 
 pub latitude-undone : (r : LatitudeRead) → made LatitudeRead.Ok LatitudeRead.Refused (latitudeRes r) ≡ r
 latitude-undone (LatitudeRead.Ok v) = refl
@@ -13,7 +12,3 @@ latitude-undone (LatitudeRead.Refused n) = refl
 pub longitude-undone : (r : LongitudeRead) → made LongitudeRead.Ok LongitudeRead.Refused (longitudeRes r) ≡ r
 longitude-undone (LongitudeRead.Ok v) = refl
 longitude-undone (LongitudeRead.Refused n) = refl
-
-pub position-undone : (r : PositionRead) → made PositionRead.Ok PositionRead.Refused (positionRes r) ≡ r
-position-undone (PositionRead.Ok v) = refl
-position-undone (PositionRead.Refused n) = refl

@@ -1,12 +1,11 @@
--- Coordinates, and a position: latitude first.
+-- Coordinates: latitude and longitude.
 use Rattle.text.specs.Prelude.{ℕ, _+_, code, Bool, List, [], _∷_, _++_, Res, ok, no, bind, guard, pick, _≤?_, _=?_}
 use Rattle.text.specs.Prelude.{_∧?_, _∨?_, byte, columns, readNat, padded}
 use Rattle.text.specs.declared.refusal.Refusal.the-variants.{Syntax, OutOfRange}
 use Rattle.field.specs.Field.{sized, field}
 use Rattle.coord.specs.declared.{Compass.Compass, CompassRead.CompassRead, RawCoord.RawCoord, CoordRead.CoordRead}
 use Rattle.coord.specs.declared.{RawLatitude.RawLatitude, LatitudeRead.LatitudeRead, RawLongitude.RawLongitude}
-use Rattle.coord.specs.declared.{LongitudeRead.LongitudeRead, position.RawPosition.RawPosition}
-use Rattle.coord.specs.declared.{position.PositionRead.PositionRead}
+use Rattle.coord.specs.declared.LongitudeRead.{LongitudeRead}
 use Rattle.coord.specs.declared.Compass.the-variants.{North, South, East, West}
 
 -- N, S, E, W.
@@ -102,31 +101,6 @@ latitudeText l = coordText 2 (l .0)
 abbrev pub longitudeText : RawLongitude → List ℕ
 longitudeText l = coordText 3 (l .0)
 
--- ---- a position
-
--- Latitude, then longitude.
-unfoldable pub readBoth : List ℕ → Res RawPosition
-readBoth s =
-    bind (columns 0 8 latitudeIn s) (λ lat.
-    bind (columns 8 17 longitudeIn s) (λ lon.
-    ok (record { lat = lat; lon = lon })))
-
--- A position of 17 characters.
-unfoldable pub readPosition : List ℕ → Res RawPosition
-readPosition = field 17 readBoth
-
--- The same in a text that is known to be ASCII.
-unfoldable pub positionIn : List ℕ → Res RawPosition
-positionIn = sized 17 readBoth
-
--- The latitude's text, then the longitude's.
-unfoldable pub positionText : RawPosition → List ℕ
-positionText p = latitudeText (p .lat) ++ longitudeText (p .lon)
-
--- By the book: both coordinates are.
-unfoldable pub positionBook : RawPosition → Bool
-positionBook p = coordBook (p .lat .0) ∧? coordBook (p .lon .0)
-
 -- ---- the answers of the code
 
 abbrev pub compassRes : CompassRead → Res Compass
@@ -144,7 +118,3 @@ latitudeRes (LatitudeRead.Refused n) = no n
 abbrev pub longitudeRes : LongitudeRead → Res RawLongitude
 longitudeRes (LongitudeRead.Ok v) = ok v
 longitudeRes (LongitudeRead.Refused n) = no n
-
-abbrev pub positionRes : PositionRead → Res RawPosition
-positionRes (PositionRead.Ok v) = ok v
-positionRes (PositionRead.Refused n) = no n

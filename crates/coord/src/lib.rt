@@ -1,7 +1,6 @@
 // Coordinates, as src/util/coord.rs has them.
 pub mod degrees;
 pub mod latlon;
-pub mod position;
 
 ghost use mathlib.Core.Path.{_≡_};
 ghost use Prim.Native.Nat.{_+_, _≤_};

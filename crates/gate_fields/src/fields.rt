@@ -4,8 +4,6 @@ use coord::LatitudeRead;
 use coord::LongitudeRead;
 use coord::RawLatitude;
 use coord::RawLongitude;
-use coord::position::PositionRead;
-use coord::position::RawPosition;
 use datetime::Date;
 use datetime::DateRead;
 use datetime::Time;
@@ -16,6 +14,8 @@ use field::Mnemonic;
 use gate_say as say;
 use manufacturer::Manufacturer;
 use manufacturer::MaybeTriple;
+use position::PositionRead;
+use position::RawPosition;
 
 fn answer_time(read: TimeRead) {
     match read {

@@ -6,7 +6,8 @@ use Rattle.text.proofs.Answers.{made, told, u8-undone, u16-undone, i8-undone, i
 use Rattle.part.proofs.Answers.{found-undone, shows-one}
 use Rattle.print.proofs.Answers.{prints-one, wrote-one}
 use Rattle.datetime.proofs.Answers.{time-undone, date-undone}
-use Rattle.coord.proofs.Answers.{latitude-undone, longitude-undone, position-undone}
+use Rattle.coord.proofs.Answers.{latitude-undone, longitude-undone}
+use Rattle.position.proofs.Answers.{position-undone}
 use Rattle.extension.proofs.Answers.{extension-undone}
 use Rattle.a_record.proofs.Answers.{a-undone}
 use Rattle.b_record.proofs.Answers.{fix-undone, b-undone}

@@ -9,6 +9,7 @@ use Rattle.datetime.specs.Three.{readThree, threeText}
 use Rattle.datetime.specs.Time.{timeOf, readTime, timeText}
 use Rattle.datetime.specs.Date.{dateOf, readDate, dateText}
 use Rattle.coord.specs.Coord as coord
+use Rattle.position.specs.Position as position
 use Rattle.manufacturer.specs.Maker as maker
 use Rattle.extension.specs.Extension.{readDefinition, readExtension, extensionText}
 use Rattle.table.specs.Table.{tableOf, readDefs, readBody, isTable, readTable, defsOf, defsText, tableBody, tableText}
@@ -28,7 +29,7 @@ unfolding
     allDigits valueFrom readDigits readNat readInt digits placesIn placesOf padded signed zeros isAscii cut columns
     sized asciiIn ascii field mnemonicText readThree threeText timeOf readTime timeText dateOf readDate dateText
     coord.compassLetter coord.signOf coord.coordOf coord.lettered coord.readCoord coord.coordText coord.latitude
-    coord.longitude coord.latitudeIn coord.longitudeIn coord.readBoth coord.readPosition coord.positionText
+    coord.longitude coord.latitudeIn coord.longitudeIn position.readBoth position.readPosition position.positionText
     maker.letterOf maker.tripleSpelt maker.tripleOf maker.known maker.firstOf maker.isLetter maker.letterMaker
     readDefinition readExtension extensionText tableOf readDefs readBody isTable readTable defsOf defsText tableBody
     tableText tableRead aNew aOf letterForm readA tripleText aBody aText validLetter validOf readHeights readFix

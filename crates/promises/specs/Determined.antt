@@ -11,7 +11,8 @@ use Rattle.print.specs.Print.{Prints}
 use Rattle.print.specs.declared.printed.Printed.{Printed}
 use Rattle.datetime.specs.Time.{timeRes}
 use Rattle.datetime.specs.Date.{dateRes}
-use Rattle.coord.specs.Coord.{latitudeRes, longitudeRes, positionRes}
+use Rattle.coord.specs.Coord.{latitudeRes, longitudeRes}
+use Rattle.position.specs.Position.{positionRes}
 use Rattle.extension.specs.Extension.{extensionRes}
 use Rattle.a_record.specs.ARecord.{aRes}
 use Rattle.b_record.specs.BRecord.{validRes, bRes}

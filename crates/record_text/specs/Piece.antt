@@ -4,7 +4,8 @@ use Rattle.part.specs.declared.{Part.Part, MaybePart.MaybePart}
 use Rattle.field.specs.Field.{mnemonicText}
 use Rattle.datetime.specs.declared.{Time.Time, Date.Date}
 use Rattle.coord.specs.Coord.{compassLetter}
-use Rattle.coord.specs.declared.{RawCoord.RawCoord, position.RawPosition.RawPosition}
+use Rattle.coord.specs.declared.RawCoord.{RawCoord}
+use Rattle.position.specs.declared.RawPosition.{RawPosition}
 use Rattle.manufacturer.specs.declared.{MaybeLetter.MaybeLetter, MaybeTriple.MaybeTriple}
 use Rattle.b_record.specs.BRecord.{pressureText, gpsText}
 use Rattle.b_record.specs.declared.{PressureAlt.PressureAlt, GpsAlt.GpsAlt}

@@ -6,13 +6,13 @@ ghost use Rattle.record_text.specs.Piece.{positionShown};
 ghost use Rattle.record_text.specs.Piece.{letterShown, tripleShown};
 use c_record::MaybeDate;
 use coord::RawCoord;
-use coord::position::RawPosition;
 use datetime::Date;
 use datetime::Time;
 use manufacturer::MaybeLetter;
 use manufacturer::MaybeTriple;
 use part::MaybePart;
 use part::Part;
+use position::RawPosition;
 use print::number::put_nat;
 use put::put_byte;
 

@@ -3,7 +3,7 @@ use Rattle.text.proofs.Prelude.{needs, _∙_, came, on, off, pass, stop, yes≤
 use Rattle.field.specs.Field.{isAscii, ascii, asciiIn}
 use Rattle.field.proofs.Fields.{columns-of-ascii}
 use Rattle.datetime.specs.Time.{readTime, timeIn, timeRes}
-use Rattle.coord.specs.Coord.{readPosition, positionIn, positionRes}
+use Rattle.position.specs.Position.{readPosition, positionIn, positionRes}
 use Rattle.b_record.specs.BRecord.{validOf, validRes, readHeights, heightsRes, readFix, readB}
 use Rattle.b_record.specs.declared.BRecord.{BRecord}
 use Rattle.b_record.proofs.BRecord.parse.Statement.{statement}

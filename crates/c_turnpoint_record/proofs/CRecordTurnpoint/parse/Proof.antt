@@ -1,7 +1,7 @@
 use Rattle.text.specs.Prelude.{ℕ, _≡_, true, List, now, ok, no, cut, columns}
 use Rattle.text.proofs.Prelude.{needs, came, on, off, pass, stop, yes≤, no≤, yes=, no=, so-true, so-false}
 use Rattle.field.specs.Field.{isAscii, asciiIn}
-use Rattle.coord.specs.Coord.{readPosition, positionRes}
+use Rattle.position.specs.Position.{readPosition, positionRes}
 use Rattle.c_turnpoint_record.specs.CTurnpoint.{readTurnpoint}
 use Rattle.c_turnpoint_record.proofs.CRecordTurnpoint.parse.Statement.{statement}
 use Rattle.c_turnpoint_record.proofs.CRecordTurnpoint.parse.Tie as tie

@@ -1,8 +1,8 @@
 use Rattle.text.specs.Prelude.{_∧?_}
 use Rattle.text.proofs.Prelude.{needs, refl, sym, _∙_, first, second}
-use Rattle.coord.specs.Coord.{positionBook}
-use Rattle.coord.proofs.position.RawPosition.by_the_book.Statement.{statement}
-use Rattle.coord.proofs.position.RawPosition.by_the_book.Tie as tie
+use Rattle.position.specs.Position.{positionBook}
+use Rattle.position.proofs.RawPosition.by_the_book.Statement.{statement}
+use Rattle.position.proofs.RawPosition.by_the_book.Tie as tie
 
 pub by-the-book-spec : {M : Type 1} → statement M
 unfolding positionBook _∧?_

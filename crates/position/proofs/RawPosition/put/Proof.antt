@@ -1,8 +1,8 @@
 use Rattle.text.proofs.Prelude.{needs}
 use Rattle.put.proofs.Writing.{then}
-use Rattle.coord.specs.Coord.{positionText}
-use Rattle.coord.proofs.position.RawPosition.put.Statement.{statement}
-use Rattle.coord.proofs.position.RawPosition.put.Tie as tie
+use Rattle.position.specs.Position.{positionText}
+use Rattle.position.proofs.RawPosition.put.Statement.{statement}
+use Rattle.position.proofs.RawPosition.put.Tie as tie
 
 pub put-spec : {M : Type 1} → statement M
 unfolding positionText

@@ -1,7 +1,7 @@
 use Rattle.text.proofs.Prelude.{needs}
 use Rattle.print.proofs.Printing.{no-room, written}
-use Rattle.coord.proofs.position.RawPosition.print.Statement.{statement}
-use Rattle.coord.proofs.position.RawPosition.print.Tie as tie
+use Rattle.position.proofs.RawPosition.print.Statement.{statement}
+use Rattle.position.proofs.RawPosition.print.Tie as tie
 
 pub print-spec : {M : Type 1} → statement M
 print-spec =

@@ -1,8 +1,8 @@
 use Rattle.text.proofs.Prelude.{needs, _∙_, so-true, so-false}
 use Rattle.field.proofs.Fields.{wrong-length, not-ascii, field-of-ascii}
-use Rattle.coord.specs.Coord.{positionIn, readPosition}
-use Rattle.coord.proofs.position.RawPosition.parse.Statement.{statement}
-use Rattle.coord.proofs.position.RawPosition.parse.Tie as tie
+use Rattle.position.specs.Position.{positionIn, readPosition}
+use Rattle.position.proofs.RawPosition.parse.Statement.{statement}
+use Rattle.position.proofs.RawPosition.parse.Tie as tie
 
 pub parse-spec : {M : Type 1} → statement M
 unfolding readPosition positionIn

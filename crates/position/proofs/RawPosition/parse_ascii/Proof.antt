@@ -1,9 +1,10 @@
 use Rattle.text.specs.Prelude.{ℕ, _≡_, List, now, ok, no, cut, columns}
 use Rattle.text.proofs.Prelude.{needs, refl, came, on, off, pass, stop, yes=, no=}
 use Rattle.field.specs.Field.{sized}
-use Rattle.coord.specs.Coord.{latitudeRes, longitudeRes, latitudeIn, longitudeIn, readBoth, positionIn}
-use Rattle.coord.proofs.position.RawPosition.parse_ascii.Statement.{statement}
-use Rattle.coord.proofs.position.RawPosition.parse_ascii.Tie as tie
+use Rattle.coord.specs.Coord.{latitudeRes, longitudeRes, latitudeIn, longitudeIn}
+use Rattle.position.specs.Position.{readBoth, positionIn}
+use Rattle.position.proofs.RawPosition.parse_ascii.Statement.{statement}
+use Rattle.position.proofs.RawPosition.parse_ascii.Tie as tie
 
 abbrev text : tie.Start → List ℕ
 text b = now (b .args .text)

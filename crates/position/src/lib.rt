@@ -1,13 +1,13 @@
-// A position: latitude and longitude.
+// A position, latitude and longitude, as src/util/coord.rs has it.
 ghost use mathlib.Core.Path.{_≡_};
 ghost use Rattle.text.specs.Res.{ok};
 ghost use Rattle.put.specs.Put.{Wrote};
 ghost use Rattle.print.specs.Print.{Prints};
-ghost use Rattle.coord.specs.Coord.{readPosition, positionIn, positionText, positionBook, positionRes};
-use crate::LatitudeRead;
-use crate::LongitudeRead;
-use crate::RawLatitude;
-use crate::RawLongitude;
+ghost use Rattle.position.specs.Position.{readPosition, positionIn, positionText, positionBook, positionRes};
+use coord::LatitudeRead;
+use coord::LongitudeRead;
+use coord::RawLatitude;
+use coord::RawLongitude;
 use field::is_ascii;
 use print::printed::Printed;
 use text::refusal::Refusal;
