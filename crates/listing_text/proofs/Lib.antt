@@ -1,4 +1,3 @@
-pub mod Answers
 pub mod Telling
 pub mod Room
 pub mod Limit

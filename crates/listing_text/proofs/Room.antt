@@ -1,10 +1,9 @@
 -- The listing of a log has room: 38 characters for each of its lines, 65 for the trailer.
-use Rattle.text.specs.Prelude.{ℕ, suc, _+_, _^_, _≤_, _<_, _≡_, Bool, true, false, List, [], _∷_, length, Res, ok, no}
-use Rattle.text.specs.Prelude.{pick, numberOf, byte, cut, columns, largest, signed}
+use Rattle.text.specs.Prelude.{ℕ, _+_, _≤_, _≡_, List, [], _∷_, length, Res, ok, no, numberOf, byte, cut, columns}
+use Rattle.text.specs.Prelude.{largest, signed}
 use Rattle.text.proofs.Prelude.{arith, refl, length-append, is≤}
 use Rattle.text.specs.declared.refusal.Refusal.{Refusal}
 use Rattle.text.proofs.Finds.{Finds, finds-ok, finds-bind, finds-guard, finds-pick}
-use Rattle.text.proofs.Decimal.{places-le, length-padded}
 use Rattle.text.proofs.RoundTrip.{int-columns}
 use Rattle.text.proofs.Lines.{cut-length}
 use Rattle.field.specs.Field.{asciiIn, ascii}
@@ -17,23 +16,12 @@ use Rattle.log.specs.Fold.{over, texts, Carried, fresh, pastLine}
 use Rattle.log.proofs.Chunks.{total, total-chunks, chunks-le}
 use Rattle.held.specs.declared.Held.{Held}
 use Rattle.walk.specs.Readings.{reader}
-use Rattle.walk.proofs.Turns.{one-at-most}
-use Rattle.listing_text.specs.Line.{plain, answered, answerText, headText, fixHeights, heightsOf, listingLine}
-use Rattle.listing_text.specs.Trailer.{isRefusal, forceAfter, nothing, counted, countStep, offsetText, figures}
-use Rattle.listing_text.specs.Trailer.{trailerText}
+use Rattle.trailer_text.specs.Answer.{answered}
+use Rattle.trailer_text.specs.Trailer.{nothing, countStep, offsetText, trailerText}
+use Rattle.trailer_text.specs.declared.Trailer.{Trailer}
+use Rattle.trailer_text.proofs.Room.{plain-le, picked-has, Fits, trailer-le, line-fits}
+use Rattle.listing_text.specs.Line.{answerText, headText, fixHeights, heightsOf, listingLine}
 use Rattle.listing_text.specs.Listing.{lineOf, listed, listingText, roomFor, HasRoom}
-use Rattle.listing_text.specs.declared.{trailer.Offset.Offset, trailer.Trailer.Trailer}
-
--- a number below 10 ^ (k + 1) has at most k + 1 characters
-plain-le : (k n : ℕ) → n < 10 ^ suc k → length (plain n) ≤ suc k
-unfolding plain
-plain-le k n h = omega (arith, length-padded 1 n, places-le k n h)
-
--- what both have, the one that is picked has
-picked-has : {A : Type 0} (P : A → Type 0) (t : Bool) {a b : A} → P a → P b → P (pick t a b)
-unfolding pick
-picked-has P true p q = p
-picked-has P false p q = q
 
 -- ---- the answer to a line, and its heights
 
@@ -104,34 +92,6 @@ unfolding readLine listingLine headText answerText
 line-le n s h =
     let m = found-short (readLine s) (finds-guard _ (λ _. kind-short (byte 0 s) s)) in
     simp length-append (omega (arith, plain-le 19 n (omega arith), plain-le 1 (answered (readLine s)) (omega arith)))
-
--- ---- the trailer
-
--- Counts of no more than the lines so far, and an offset of at most 20 characters.
-record Fits (c : Carried Held Trailer) : Type 0 where
-  lines : c .made .lines ≤ c .number
-  refused : c .made .refused ≤ c .number
-  offset : length (offsetText (c .made .«in_force»)) ≤ 20
-
--- a trailer that fits has at most 65 characters
-trailer-le : {c : Carried Held Trailer} → Fits c → c .number ≤ largest → length (trailerText (c .made)) ≤ 65
-unfolding trailerText figures
-trailer-le {c} f h =
-    let lines = plain-le 19 (c .made .lines) (omega arith) in
-    let refused = plain-le 19 (c .made .refused) (omega arith) in
-    simp length-append (omega arith)
-
--- one line more still fits
-line-fits : {c : Carried Held Trailer} (k : List ℕ) → Fits c → c .place ≤ largest
-    → Fits (pastLine reader countStep c (lineText k) (length k))
-unfolding pastLine countStep counted forceAfter offsetText
-line-fits {c} k f h =
-    let P : Offset → Type 0 = λ o. length (offsetText o) ≤ 20 in
-    record {
-      lines = omega arith;
-      refused = omega (arith, one-at-most (isRefusal (readLine (lineText k))));
-      offset = picked-has P _ (picked-has P _ (plain-le 19 (c .place) (omega arith)) (omega arith)) (f .offset);
-    }
 
 -- ---- the listing
 

@@ -1,25 +1,25 @@
 -- The loop over a log that counts and lists its lines.
-use Rattle.text.specs.Prelude.{ℕ, _+_, _≤_, _<_, _≡_, List, length, take, Res, largest}
-use Rattle.text.proofs.Prelude.{arith, refl, sym, _∙_, take-all, first, yes≤, holds}
+use Rattle.text.specs.Prelude.{ℕ, _≤_, _<_, _≡_, List, length, take, largest}
+use Rattle.text.proofs.Prelude.{arith, refl, _∙_, take-all}
 use Rattle.part.specs.Part.{partBytes}
 use Rattle.put.specs.Put.{Wrote}
 use Rattle.put.proofs.Writing.{then}
 use Rattle.put.proofs.Writing as writing
 use Rattle.records.specs.Record.{readingRes}
-use Rattle.records.specs.declared.Record.{Record}
 use Rattle.log.specs.Fold.{texts, fresh, readOn}
 use Rattle.log.proofs.Pieces.{all-read, no-text}
 use Rattle.log.proofs.Reached as fold
 use Rattle.log.proofs.Reached.{Reached}
 use Rattle.held.specs.declared.Held.{Held}
 use Rattle.walk.specs.Turn.{gotAt}
-use Rattle.walk.specs.Readings.{Line-read, reader}
+use Rattle.walk.specs.Readings.{reader}
 use Rattle.walk.specs.declared.turn.Got.{Got}
-use Rattle.walk.proofs.Turns.{turn, text-turn, one-at-most}
+use Rattle.walk.proofs.Turns.{turn, text-turn}
+use Rattle.trailer_text.specs.Trailer.{nothing, counted, tallied, countStep, trailerText}
+use Rattle.trailer_text.specs.declared.Trailer.{Trailer}
+use Rattle.trailer_text.proofs.Counting.{tallied-is, one-refused}
 use Rattle.listing_text.specs.Line.{listingLine}
-use Rattle.listing_text.specs.Trailer.{isRefusal, nothing, counted, tallied, countStep, trailerText}
 use Rattle.listing_text.specs.Listing.{lineOf, listed, listingText}
-use Rattle.listing_text.specs.declared.trailer.Trailer.{Trailer}
 
 -- The lines before the place were counted and written.
 pub record Telling (log b₀ : List ℕ) (at₀ : ℕ) (b : List ℕ) (t : Trailer) (end place : ℕ) : Type 0 where
@@ -42,17 +42,6 @@ at-start log b at short h k = record {
   lines = omega arith;
   refused = omega arith;
 }
-
--- counts below the largest number go up by a reading
-pub tallied-is : (t : Trailer) (p : ℕ) (s : List ℕ) (m : Res Record) → t .lines < largest → t .refused < largest →
-    tallied t p s m ≡ counted t p s m
-unfolding tallied
-tallied-is t p s m h k = sym (first _ (holds (yes≤ (omega arith)) (yes≤ (omega arith))) refl)
-
--- a line raises the count of refused lines by at most one
-pub one-refused : (t : Trailer) (x : Line-read) → countStep t x .refused ≤ t .refused + 1
-unfolding countStep counted
-one-refused t x = omega (arith, one-at-most (isRefusal (x .answer)))
 
 module _ {log b₀ b : List ℕ} {at₀ end place : ℕ} {t : Trailer} (f : Telling log b₀ at₀ b t end place) where
   -- after the last line the trailer is left

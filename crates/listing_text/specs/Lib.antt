@@ -1,4 +1,3 @@
 pub mod Line
-pub mod Trailer
 pub mod Listing
 pub mod Paper

@@ -1,19 +1,11 @@
 -- A line of the listing. Fields are parted by one space, every printed line is closed by LF.
-use Rattle.text.specs.Prelude.{ℕ, code, List, [], _∷_, _++_, Res, ok, no, pick, numberOf, _≤?_, _∧?_, LF, byte, padded}
+use Rattle.text.specs.Prelude.{ℕ, code, List, [], _∷_, _++_, Res, pick, _≤?_, _∧?_, LF, byte}
 use Rattle.b_record.specs.BRecord.{pressureText, gpsText}
 use Rattle.b_record.specs.declared.BRecord.{BRecord}
-use Rattle.records.specs.Record.{acceptedAs, answerFix}
+use Rattle.records.specs.Record.{answerFix}
 use Rattle.records.specs.declared.{Record.Record, MaybeFix.MaybeFix}
 use Rattle.records.specs.declared.MaybeFix.the-variants.{Missing, Fix}
-
--- A number in plain decimal.
-unfoldable pub plain : ℕ → List ℕ
-plain n = padded 1 n
-
--- The paper's number of the answer to a line.
-unfoldable pub answered : Res Record → ℕ
-answered (ok r) = acceptedAs r
-answered (no n) = numberOf n
+use Rattle.trailer_text.specs.Answer.{plain, answered}
 
 -- The first byte if A to Z, else `-`.
 unfoldable pub firstLetter : List ℕ → ℕ

@@ -3,8 +3,8 @@ use Rattle.text.specs.Prelude.{ℕ, _+_, _*_, _≤_, List, _++_, length, larges
 use Rattle.log.specs.Log.{readings}
 use Rattle.log.specs.Fold.{over, texts}
 use Rattle.walk.specs.Readings.{Line-read, reader}
+use Rattle.trailer_text.specs.Trailer.{nothing, countStep, trailerText}
 use Rattle.listing_text.specs.Line.{listingLine}
-use Rattle.listing_text.specs.Trailer.{nothing, countStep, trailerText}
 
 -- The line of the listing for a reading.
 unfoldable pub lineOf : Line-read → List ℕ

@@ -1,7 +1,6 @@
 // The text of the listing: a line for each line of the log, and a trailer with counts over them.
 pub mod listing;
 pub mod paper;
-pub mod trailer;
 
 ghost use mathlib.Core.Path.{_≡_};
 ghost use Rattle.put.specs.Put.{Wrote};

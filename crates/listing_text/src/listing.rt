@@ -5,9 +5,9 @@ ghost use Rattle.put.specs.Put.{Wrote};
 ghost use Rattle.print.specs.Print.{Prints};
 ghost use Rattle.listing_text.specs.Listing.{listingText, roomFor};
 use crate::put_line;
-use crate::trailer::Trailer;
 use print::printed::Printed;
 use text::refusal::Refusal;
+use trailer_text::Trailer;
 use walk::turn::read_at;
 
 // What a fresh walk over the log reads, line by line, and the trailer.

@@ -20,9 +20,9 @@ use Rattle.walk.specs.Turn.{gotAt}
 use Rattle.walk.specs.Readings.{Line-read, reader}
 use Rattle.walk.specs.declared.turn.Got.{Got}
 use Rattle.walk.proofs.Turns.{gotRead, cut-of, answer-of, turn, text-turn, cut-here}
-use Rattle.listing_text.specs.Trailer.{counted, tallied, countStep}
-use Rattle.listing_text.specs.declared.trailer.Trailer.{Trailer}
-use Rattle.listing_text.proofs.Telling.{tallied-is, one-refused}
+use Rattle.trailer_text.specs.Trailer.{counted, tallied, countStep}
+use Rattle.trailer_text.specs.declared.Trailer.{Trailer}
+use Rattle.trailer_text.proofs.Counting.{tallied-is, one-refused}
 use Rattle.products.specs.Product.{productLine, productLineOf}
 use Rattle.products.specs.Feed.{view, isReady, FedOf, Feeds}
 use Rattle.products.specs.declared.{Product.Product, Carried.Carried, Fed.Fed}

@@ -9,10 +9,10 @@ use Rattle.held.specs.declared.Held.{Held}
 use Rattle.walk.specs.Cursor.{start}
 use Rattle.walk.specs.Walk as walk
 use Rattle.walk.specs.Readings.{reader}
-use Rattle.listing_text.specs.Trailer.{nothing, countStep}
+use Rattle.trailer_text.specs.Trailer.{nothing, countStep}
+use Rattle.trailer_text.specs.declared.Trailer.{Trailer}
+use Rattle.trailer_text.proofs.Counting.{one-refused}
 use Rattle.listing_text.specs.Listing.{lineOf, listed, listingText}
-use Rattle.listing_text.specs.declared.trailer.Trailer.{Trailer}
-use Rattle.listing_text.proofs.Telling.{one-refused}
 use Rattle.fields_text.specs.Line.{fieldsOf, fieldsText}
 use Rattle.products.specs.Product.{productLine, productLineOf, closing, productText}
 use Rattle.products.specs.Feed.{atFirst, view, isReady, Feeds}

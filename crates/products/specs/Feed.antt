@@ -5,8 +5,8 @@ use Rattle.log.specs.Taking.{Took}
 use Rattle.held.specs.declared.Held.{Held}
 use Rattle.walk.specs.Walk as walk
 use Rattle.walk.specs.Readings.{reader}
-use Rattle.listing_text.specs.Trailer.{nothing, countStep}
-use Rattle.listing_text.specs.declared.trailer.Trailer.{Trailer}
+use Rattle.trailer_text.specs.Trailer.{nothing, countStep}
+use Rattle.trailer_text.specs.declared.Trailer.{Trailer}
 use Rattle.products.specs.Product.{productLineOf}
 use Rattle.products.specs.declared.{Product.Product, Carried.Carried, Fed.Fed}
 

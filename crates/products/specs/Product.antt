@@ -5,9 +5,9 @@ use Rattle.log.specs.Log.{readings}
 use Rattle.log.specs.Fold.{over, texts}
 use Rattle.held.specs.declared.Held.{Held}
 use Rattle.walk.specs.Readings.{Line-read, reader}
+use Rattle.trailer_text.specs.Trailer.{nothing, countStep, trailerText}
+use Rattle.trailer_text.specs.declared.Trailer.{Trailer}
 use Rattle.listing_text.specs.Line.{listingLine}
-use Rattle.listing_text.specs.Trailer.{nothing, countStep, trailerText}
-use Rattle.listing_text.specs.declared.trailer.Trailer.{Trailer}
 use Rattle.fields_text.specs.Line.{fieldsLine}
 use Rattle.products.specs.declared.Product.{Product}
 use Rattle.products.specs.declared.Product.the-variants.{Listing, Fields}

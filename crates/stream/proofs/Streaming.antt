@@ -9,7 +9,7 @@ use Rattle.log.proofs.Reached.{Reached}
 use Rattle.window.specs.Piece.{pieceEnd}
 use Rattle.window.proofs.Wholes.{whole-closed}
 use Rattle.walk.specs.Readings.{reader}
-use Rattle.listing_text.specs.Trailer.{countStep}
+use Rattle.trailer_text.specs.Trailer.{countStep}
 use Rattle.products.specs.Feed.{view, Feeds}
 use Rattle.products.specs.declared.{Product.Product, Carried.Carried, Fed.Fed}
 use Rattle.products.proofs.Feeding.{called}

@@ -5,7 +5,7 @@ use Rattle.log.specs.Log.{closed}
 use Rattle.log.specs.Fold.{fed}
 use Rattle.window.specs.Piece.{pieceEnd}
 use Rattle.walk.specs.Readings.{reader}
-use Rattle.listing_text.specs.Trailer.{countStep}
+use Rattle.trailer_text.specs.Trailer.{countStep}
 use Rattle.products.specs.Feed.{view}
 use Rattle.products.specs.declared.Carried.{Carried}
 use Rattle.files.specs.Outcome.{hasFailed}

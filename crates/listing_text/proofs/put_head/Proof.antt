@@ -1,6 +1,7 @@
 use Rattle.text.proofs.Prelude.{needs}
 use Rattle.put.proofs.Writing.{then}
-use Rattle.listing_text.specs.Line.{plain, headText}
+use Rattle.trailer_text.specs.Answer.{plain}
+use Rattle.listing_text.specs.Line.{headText}
 use Rattle.listing_text.proofs.put_head.Statement.{statement}
 use Rattle.listing_text.proofs.put_head.Tie as tie
 

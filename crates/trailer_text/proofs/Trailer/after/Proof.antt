@@ -1,9 +1,9 @@
 use Rattle.text.specs.Prelude.{pick}
 use Rattle.text.proofs.Prelude.{needs, arith, refl, sym, _∙_, first, second, yes≤, no≤, holds, fails}
 use native.Mathlib.Nat.{add-zero}
-use Rattle.listing_text.specs.Trailer.{counted, tallied}
-use Rattle.listing_text.proofs.trailer.Trailer.after.Statement.{statement}
-use Rattle.listing_text.proofs.trailer.Trailer.after.Tie as tie
+use Rattle.trailer_text.specs.Trailer.{counted, tallied}
+use Rattle.trailer_text.proofs.Trailer.after.Statement.{statement}
+use Rattle.trailer_text.proofs.Trailer.after.Tie as tie
 
 lines-full : tie.Need-returns
 unfolding tallied

@@ -1,8 +1,8 @@
 use Rattle.text.proofs.Prelude.{needs}
 use Rattle.put.proofs.Writing.{then}
-use Rattle.listing_text.specs.Trailer.{trailerText}
-use Rattle.listing_text.proofs.trailer.Trailer.put.Statement.{statement}
-use Rattle.listing_text.proofs.trailer.Trailer.put.Tie as tie
+use Rattle.trailer_text.specs.Trailer.{trailerText}
+use Rattle.trailer_text.proofs.Trailer.put.Statement.{statement}
+use Rattle.trailer_text.proofs.Trailer.put.Tie as tie
 
 returns : tie.Need-returns
 unfolding trailerText

@@ -1,9 +1,9 @@
 use Rattle.text.specs.Prelude.{_≡_, true, now, begins}
 use Rattle.text.proofs.Prelude.{needs, refl, sym, _∙_, first, second, yes=, no=}
-use Rattle.listing_text.specs.Trailer.{forceAfter}
-use Rattle.listing_text.proofs.Answers.{number-is}
-use Rattle.listing_text.proofs.trailer.Offset.after.Statement.{statement}
-use Rattle.listing_text.proofs.trailer.Offset.after.Tie as tie
+use Rattle.trailer_text.specs.Trailer.{forceAfter}
+use Rattle.trailer_text.proofs.Answers.{number-is}
+use Rattle.trailer_text.proofs.Offset.after.Statement.{statement}
+use Rattle.trailer_text.proofs.Offset.after.Tie as tie
 
 i-line : (c : tie.Then1) → begins 73 (now (c .before .before .before .args .line)) ≡ true
 i-line c = sym (c .before .begins .ensures) ∙ c .if1 .taken

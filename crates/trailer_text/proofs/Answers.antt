@@ -3,7 +3,7 @@ use Rattle.text.specs.Prelude.{ℕ, _≡_}
 use Rattle.records.specs.Record.{answerOf, readingRes}
 use Rattle.records.specs.declared.Reading.{Reading}
 use Rattle.records.specs.declared.Reading.the-variants.{Accepted, Refused}
-use Rattle.listing_text.specs.Line.{answered}
+use Rattle.trailer_text.specs.Answer.{answered}
 
 -- the number that the code has of a reading is its answer's
 pub number-is : {n : ℕ} (r : Reading) → n ≡ answerOf r → n ≡ answered (readingRes r)

@@ -2,8 +2,8 @@
 ghost use mathlib.Core.Path.{_≡_};
 ghost use Rattle.put.specs.Put.{Wrote};
 ghost use Rattle.records.specs.Record.{readingRes};
-ghost use Rattle.listing_text.specs.Trailer.{nothing, isRefusal, tallied, forceAfter, offsetText, figures};
-ghost use Rattle.listing_text.specs.Trailer.{trailerText};
+ghost use Rattle.trailer_text.specs.Trailer.{nothing, isRefusal, tallied, forceAfter, offsetText, figures};
+ghost use Rattle.trailer_text.specs.Trailer.{trailerText};
 use print::number::put_nat;
 use put::put_byte;
 use records::Reading;

@@ -1,9 +1,9 @@
 use Rattle.text.proofs.Prelude.{needs}
 use Rattle.put.proofs.Writing.{then}
-use Rattle.listing_text.specs.Line.{plain}
-use Rattle.listing_text.specs.Trailer.{figures}
-use Rattle.listing_text.proofs.trailer.Trailer.put_counts.Statement.{statement}
-use Rattle.listing_text.proofs.trailer.Trailer.put_counts.Tie as tie
+use Rattle.trailer_text.specs.Answer.{plain}
+use Rattle.trailer_text.specs.Trailer.{figures}
+use Rattle.trailer_text.proofs.Trailer.put_counts.Statement.{statement}
+use Rattle.trailer_text.proofs.Trailer.put_counts.Tie as tie
 
 returns : tie.Need-returns
 unfolding figures plain

@@ -1,8 +1,8 @@
 use Rattle.text.proofs.Prelude.{needs, sym, yes≤, no≤, holds, fails, tested}
-use Rattle.listing_text.specs.Trailer.{isRefusal}
-use Rattle.listing_text.proofs.Answers.{number-is}
-use Rattle.listing_text.proofs.trailer.is_refusal.Statement.{statement}
-use Rattle.listing_text.proofs.trailer.is_refusal.Tie as tie
+use Rattle.trailer_text.specs.Trailer.{isRefusal}
+use Rattle.trailer_text.proofs.Answers.{number-is}
+use Rattle.trailer_text.proofs.is_refusal.Statement.{statement}
+use Rattle.trailer_text.proofs.is_refusal.Tie as tie
 
 pub is-refusal-spec : {M : Type 1} → statement M
 unfolding isRefusal

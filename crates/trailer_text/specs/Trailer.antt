@@ -3,9 +3,9 @@ use Rattle.text.specs.Prelude.{ℕ, _+_, code, Bool, List, [], _∷_, _++_, Res
 use Rattle.text.specs.Prelude.{largest}
 use Rattle.records.specs.declared.Record.{Record}
 use Rattle.walk.specs.Readings.{Line-read}
-use Rattle.listing_text.specs.Line.{plain, answered}
-use Rattle.listing_text.specs.declared.{trailer.Offset.Offset, trailer.Trailer.Trailer}
-use Rattle.listing_text.specs.declared.trailer.Offset.the-variants.{Missing, At}
+use Rattle.trailer_text.specs.Answer.{plain, answered}
+use Rattle.trailer_text.specs.declared.{Offset.Offset, Trailer.Trailer}
+use Rattle.trailer_text.specs.declared.Offset.the-variants.{Missing, At}
 
 -- An answer from 1 to 5.
 unfoldable pub isRefusal : Res Record → Bool

@@ -1,8 +1,8 @@
 use Rattle.text.proofs.Prelude.{needs}
-use Rattle.listing_text.specs.Line.{plain}
-use Rattle.listing_text.specs.Trailer.{offsetText}
-use Rattle.listing_text.proofs.trailer.Offset.put.Statement.{statement}
-use Rattle.listing_text.proofs.trailer.Offset.put.Tie as tie
+use Rattle.trailer_text.specs.Answer.{plain}
+use Rattle.trailer_text.specs.Trailer.{offsetText}
+use Rattle.trailer_text.proofs.Offset.put.Statement.{statement}
+use Rattle.trailer_text.proofs.Offset.put.Tie as tie
 
 pub put-spec : {M : Type 1} → statement M
 unfolding offsetText plain
