@@ -9,7 +9,7 @@ use Rattle.log.specs.Line.{cutAt}
 use Rattle.log.specs.Fold.{Carried, fresh}
 use Rattle.log.proofs.Cuts.{cut-viewed}
 use Rattle.log.proofs.Reached.{Reached, few, line, less-left}
-use Rattle.held.specs.declared.Held.{Held}
+use Rattle.held.specs.declared.tables.Tables.{Tables}
 use Rattle.walk.specs.Cursor.{past}
 use Rattle.walk.specs.Walk.{readingOf, stepOf}
 use Rattle.walk.specs.Readings.{Line-read, reader}
@@ -18,7 +18,7 @@ use Rattle.walk.specs.declared.Taken.the-variants.{Line, Done}
 use Rattle.walk.proofs.Laws.{viewed, step-on}
 
 -- what a walk carries, with a made so far
-abbrev pub carriedBy : {T : Type 0} → Walk → T → Carried Held T
+abbrev pub carriedBy : {T : Type 0} → Walk → T → Carried Tables T
 carriedBy w a = record { number = w .at .number; place = w .at .place; held = w .held; made = a }
 
 module _ {T : Type 0} {step : T → Line-read → T} {a₀ a : T} {s : List ℕ} {w : Walk} {t : Step}
@@ -42,7 +42,7 @@ module _ {T : Type 0} {step : T → Line-read → T} {a₀ a : T} {s : List ℕ}
   step-read {q} k = let n = step-here in let z : q ≡ readingOf (readLine here) = cc in rw z (viewed (readLine here))
 
   -- the line that was read, with a′ made of it
-  pub step-turn : {a′ : T} → ((n : ℕ) (h : Held) →
+  pub step-turn : {a′ : T} → ((n : ℕ) (h : Tables) →
       a′ ≡ step a (record { number = n; place = w .at .place; line = here; answer = readLine here; held = h })) →
       Reached reader step (fresh reader a₀) s (t .walk .at .place) (carriedBy (t .walk) a′)
   unfolding past

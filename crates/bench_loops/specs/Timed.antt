@@ -68,7 +68,7 @@ readStep n x = summed n (ofAnswer (x .answer))
 -- The same, with the value of a name on fixes.
 unfoldable pub lookUpStep : Mnemonic → ℕ → Line-read → ℕ
 lookUpStep name n x = summed (summed n (ofAnswer (x .answer)))
-    (ofNamed name (x .held) (answerFix (x .answer)) (x .line))
+    (ofNamed name (x .held .i) (answerFix (x .answer)) (x .line))
 
 -- The lengths of the texts printed, and the bytes in which each was printed in its turn.
 pub record Out : Type 0 where

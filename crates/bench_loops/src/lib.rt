@@ -7,6 +7,7 @@ ghost use Rattle.bench_loops.specs.Timed.{readSum, lookUpSum, printedOut
 use b_record::BRecord;
 use field::Mnemonic;
 use held::Held;
+use held::tables::Tables;
 use print::printed::Printed;
 use records::MaybeFix;
 use records::Reading;
@@ -105,7 +106,7 @@ pub extern "C" fn timed_lookup(log: &[u8], a: u8, b: u8, c: u8) -> u64
     ensures { λ r. ⌜ r ≡ lookUpSum (record { 0 = a; 1 = b; 2 = c }) (now (log .entry)) ⌝ }
 {
     let name = Mnemonic(a, b, c);
-    let mut held = Held::new();
+    let mut held = Tables::new();
     let mut sum: u64 = 0;
     let mut at = 0;
     while at < log.len() {
@@ -113,9 +114,9 @@ pub extern "C" fn timed_lookup(log: &[u8], a: u8, b: u8, c: u8) -> u64
         let part = got.line;
         let reading = got.reading;
         let line = part.view(log);
-        held = held.after(b'I', line);
+        held = held.after(line);
         sum = wrapping_add_u64(sum, of_reading(reading));
-        sum = wrapping_add_u64(sum, of_named(name, held, reading.fix(), line));
+        sum = wrapping_add_u64(sum, of_named(name, held.i, reading.fix(), line));
         at = got.next;
     }
     sum

@@ -4,7 +4,7 @@ use Rattle.records.specs.Record.{recordTable, recordPiece, recordBook, accepted
 use Rattle.records.specs.declared.Record.{Record}
 use Rattle.log.specs.Log.{readings}
 use Rattle.log.specs.Fold.{texts}
-use Rattle.held.specs.declared.Held.{Held}
+use Rattle.held.specs.declared.tables.Tables.{Tables}
 use Rattle.walk.specs.Readings.{Line-read, reader}
 use Rattle.listing_text.specs.Line.{headText}
 use Rattle.record_text.specs.Piece.{byteShown}
@@ -19,19 +19,19 @@ unfoldable pub printedShown : List ℕ → List ℕ
 printedShown printed = (code " " ∷ []) ++ ((code "=" ∷ []) ++ printed)
 
 -- What is seen of an accepted line s: its fields, the verdict, and the record as printed.
-unfoldable pub seen : Record → Held → List ℕ → List ℕ → List ℕ
+unfoldable pub seen : Record → Tables → List ℕ → List ℕ → List ℕ
 seen r h names s =
     recordShown r (recordTable r s) h names s
     ++ (bookShown r ++ printedShown (recordPiece r (recordTable r s) s))
 
 -- A refused line ends with its answer.
-unfoldable pub fieldsShown : Res Record → Held → List ℕ → List ℕ → List ℕ
+unfoldable pub fieldsShown : Res Record → Tables → List ℕ → List ℕ → List ℕ
 fieldsShown (ok r) h names s = seen r h names s
 fieldsShown (no n) h names s = []
 
 -- Line n with the text s, answered m, at which h is in force: number, letter and answer as in the listing, then its
 -- fields.
-unfoldable pub fieldsLine : ℕ → List ℕ → Res Record → Held → List ℕ → List ℕ
+unfoldable pub fieldsLine : ℕ → List ℕ → Res Record → Tables → List ℕ → List ℕ
 fieldsLine n s m h names = headText n s m ++ (fieldsShown m h names s ++ (LF ∷ []))
 
 -- The line of a reading, with the names asked for.

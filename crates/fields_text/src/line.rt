@@ -2,7 +2,7 @@
 ghost use Rattle.put.specs.Put.{Wrote};
 ghost use Rattle.records.specs.Record.{readingRes, recordPiece};
 ghost use Rattle.fields_text.specs.Line.{bookShown, printedShown, seen, fieldsShown, fieldsLine};
-use held::Held;
+use held::tables::Tables;
 use listing_text::put_head;
 use put::put_byte;
 use record_text::piece::show_byte;
@@ -35,7 +35,14 @@ fn put_printed(buf: &mut [u8], at: usize, rec: Record, table: Table, line: &[u8]
 }
 
 // What is seen of an accepted line.
-fn put_seen(buf: &mut [u8], at: usize, rec: Record, held: Held, names: &[u8], line: &[u8]) -> usize
+fn put_seen(
+    buf: &mut [u8],
+    at: usize,
+    rec: Record,
+    held: Tables,
+    names: &[u8],
+    line: &[u8],
+) -> usize
     ensures { λ r. ⌜ Wrote (now (buf .entry)) at (seen rec held (now (names .entry)) (now (line .entry)))
         (now (buf .exit)) r ⌝ }
 {
@@ -50,7 +57,7 @@ fn put_fields(
     buf: &mut [u8],
     at: usize,
     reading: Reading,
-    held: Held,
+    held: Tables,
     names: &[u8],
     line: &[u8],
 ) -> usize
@@ -71,7 +78,7 @@ pub fn put_line(
     number: u64,
     line: &[u8],
     reading: Reading,
-    held: Held,
+    held: Tables,
     names: &[u8],
 ) -> usize
     ensures { λ r. ⌜ Wrote (now (buf .entry)) at (fieldsLine number (now (line .entry)) (readingRes reading) held

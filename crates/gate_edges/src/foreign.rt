@@ -8,6 +8,8 @@ use c_turnpoint_record::TurnpointRead;
 use gate_say as say;
 use h_record::HRead;
 use h_record::HRecord;
+use k_record::KRead;
+use k_record::KRecord;
 use table::Table;
 use table::Verdict;
 
@@ -43,6 +45,14 @@ fn turnpoint(text: &[u8]) {
     }
 }
 
+fn data(text: &[u8]) {
+    say::asked(b"data", text);
+    match KRecord::parse(text) {
+        KRead::Ok(_) => say::accepted(text, text.len()),
+        KRead::Refused(no) => say::refused(no),
+    }
+}
+
 fn table(text: &[u8]) {
     say::asked(b"table", text);
     let verdict = Table::parse(text).verdict;
@@ -59,4 +69,5 @@ pub fn first_bytes() {
     declaration(b"\xff230718092044000000000204Foo task");
     turnpoint(b"D5111359N00101899WLashamClubhouse");
     table(b"K013638FXA");
+    data(b"k10153004512");
 }

@@ -4,6 +4,8 @@ use b_record::BRecord;
 use extension::Extension;
 use field::Mnemonic;
 use gate_say as say;
+use k_record::KRead;
+use k_record::KRecord;
 use part::Found;
 use records::Reading;
 use records::Record;
@@ -25,26 +27,44 @@ fn line(text: &[u8]) {
     }
 }
 
-fn value(start: u8, end: u8) {
-    let text = b"B1015304712345N01102500EA0152301561035";
-    let def = Extension {
+fn found(answer: Found) {
+    match answer {
+        Found::At(_) => {
+            io::write_all(1, b"0\n");
+        }
+        Found::Refused(no) => say::refused(no),
+    }
+}
+
+fn definition(start: u8, end: u8) -> Extension {
+    Extension {
         mnemonic: Mnemonic(b'F', b'X', b'A'),
         start_byte: start,
         end_byte: end,
-    };
+    }
+}
+
+fn value(start: u8, end: u8) {
+    let text = b"B1015304712345N01102500EA0152301561035";
+    let def = definition(start, end);
     match BRecord::parse(text) {
         BRead::Ok(b) => {
             say::asked(b"value", b.get_extension(def, text));
-            match b.find_extension(def, text) {
-                Found::At(_) => io::write_all(1, b"0\n"),
-                Found::Refused(no) => {
-                    say::refused(no);
-                    true
-                }
-            }
-            ;
+            found(b.find_extension(def, text));
         }
         BRead::Refused(no) => say::refused(no),
+    }
+}
+
+fn k_value(start: u8, end: u8) {
+    let text = b"K10153004512";
+    let def = definition(start, end);
+    match KRecord::parse(text) {
+        KRead::Ok(k) => {
+            say::asked(b"value", k.get_extension(def, text));
+            found(k.find_extension(def, text));
+        }
+        KRead::Refused(no) => say::refused(no),
     }
 }
 
@@ -55,7 +75,6 @@ pub fn first() {
     line(b"A\xffFIL01460FLIGHT:1");
     line(b"HFFTYFRTYPE:X");
     line(b"HFDTE020119\xe9");
-    line(b"K1015301234");
     line(b"LXXXcomment");
     line(b"zzz");
     line(b"\xff");
@@ -71,6 +90,18 @@ pub fn fixes() {
     line(b"B1015304712345N01102500EX0152301561");
     line(b"B1015304712345N01102500EA015230156");
     line(b"B1015304712345N01102500EV0152301561\xe9");
+}
+
+// K lines.
+pub fn data() {
+    line(b"K10153004512");
+    line(b"K101530");
+    line(b"K10153");
+    line(b"K10+5300");
+    line(b"K1015x0");
+    line(b"K246060");
+    line(b"K250000");
+    line(b"K101530045\xe9");
 }
 
 // I and J lines.
@@ -99,4 +130,8 @@ pub fn values() {
     value(36, 39);
     value(38, 36);
     value(37, 37);
+    k_value(8, 10);
+    k_value(7, 10);
+    k_value(8, 13);
+    k_value(10, 8);
 }

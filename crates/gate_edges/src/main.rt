@@ -7,6 +7,7 @@ fn main() {
     lines::first();
     foreign::first_bytes();
     lines::fixes();
+    lines::data();
     lines::tables();
     lines::tasks();
     lines::values();

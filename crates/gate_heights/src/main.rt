@@ -3,7 +3,7 @@
 use b_record::BRead;
 use b_record::BRecord;
 use fields_text::line::put_line;
-use held::Held;
+use held::tables::Tables;
 use listing_text::listing::print_listing;
 use print::printed::Printed;
 use records::Reading;
@@ -60,7 +60,7 @@ fn fields(line: &[u8]) {
         1,
         line,
         Record::parse_line(line),
-        Held::new(),
+        Tables::new(),
         b"",
     );
     io::write_all(1, b"fields: ");

@@ -44,6 +44,13 @@ fn tables() {
     );
 }
 
+fn data() {
+    list(
+        b"K lines are read, and have no heights",
+        b"J010810WSP\nK10153004512\nK10153\n",
+    );
+}
+
 fn letters() {
     list(b"first bytes about A to Z", b"@\nA\nZ\n[\na\n");
     list(
@@ -55,5 +62,6 @@ fn letters() {
 fn main() {
     lines();
     tables();
+    data();
     letters();
 }

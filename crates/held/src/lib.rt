@@ -1,4 +1,6 @@
 // What the lines of one letter leave in force, a table of definitions or none, and lookup by name in it.
+pub mod tables;
+
 ghost use mathlib.Core.Path.{_≡_};
 ghost use Prim.Native.Nat.{_≤_};
 ghost use Rattle.part.specs.Part.{foundRes, shown, Shows};

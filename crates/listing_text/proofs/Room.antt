@@ -14,7 +14,7 @@ use Rattle.log.specs.Line.{lineText}
 use Rattle.log.specs.Log.{chunks, readFrom, readings}
 use Rattle.log.specs.Fold.{over, texts, Carried, fresh, pastLine}
 use Rattle.log.proofs.Chunks.{total, total-chunks, chunks-le}
-use Rattle.held.specs.declared.Held.{Held}
+use Rattle.held.specs.declared.tables.Tables.{Tables}
 use Rattle.walk.specs.Readings.{reader}
 use Rattle.trailer_text.specs.Answer.{answered}
 use Rattle.trailer_text.specs.Trailer.{nothing, countStep, offsetText, trailerText}
@@ -65,7 +65,8 @@ kind-short b s =
     (picked-has P _ (finds-bind finds-any (λ _ _. finds-ok (omega arith)))
     (picked-has P _ (finds-bind finds-any (λ _ _. finds-ok (omega arith)))
     (picked-has P _ (finds-bind finds-any (λ _ _. finds-ok (omega arith)))
-    (picked-has P _ (finds-ok (omega arith)) (finds-ok (omega arith))))))))
+    (picked-has P _ (finds-bind finds-any (λ _ _. finds-ok (omega arith)))
+    (picked-has P _ (finds-ok (omega arith)) (finds-ok (omega arith)))))))))
 
 -- a refusal has a number of at most two characters
 refusal-le : (n : Refusal) → numberOf n ≤ 12
@@ -96,7 +97,7 @@ line-le n s h =
 -- ---- the listing
 
 -- what is listed from some line on has room
-rest-le : (c : Carried Held Trailer) (ks : List (List ℕ)) → Fits c
+rest-le : (c : Carried Tables Trailer) (ks : List (List ℕ)) → Fits c
     → c .number + length ks ≤ largest → c .place + total ks ≤ largest
     → let xs = readFrom reader (c .number) (c .place) (c .held) ks in
     length (texts lineOf xs) + length (trailerText (over countStep (c .made) xs)) ≤ roomFor (length ks)

@@ -10,7 +10,7 @@ use Rattle.log.specs.Fold.{texts, fresh, readOn}
 use Rattle.log.proofs.Pieces.{all-read, no-text}
 use Rattle.log.proofs.Reached as fold
 use Rattle.log.proofs.Reached.{Reached}
-use Rattle.held.specs.declared.Held.{Held}
+use Rattle.held.specs.declared.tables.Tables.{Tables}
 use Rattle.walk.specs.Turn.{gotAt}
 use Rattle.walk.specs.Readings.{reader}
 use Rattle.walk.specs.declared.turn.Got.{Got}
@@ -23,7 +23,7 @@ use Rattle.listing_text.specs.Listing.{lineOf, listed, listingText}
 
 -- The lines before the place were counted and written.
 pub record Telling (log b₀ : List ℕ) (at₀ : ℕ) (b : List ℕ) (t : Trailer) (end place : ℕ) : Type 0 where
-  pub held : Held
+  pub held : Tables
   pub reached : Reached reader countStep (fresh reader nothing) log place
       (record { number = t .lines; place = place; held = held; made = t })
   pub wrote : Wrote b₀ at₀ (texts lineOf (readOn reader (fresh reader nothing) (take place log))) b end

@@ -15,7 +15,7 @@ use Rattle.log.proofs.Pieces.{no-text}
 use Rattle.log.proofs.Reached as reached
 use Rattle.log.proofs.Reached.{Reached}
 use Rattle.log.proofs.Taking.{Left, left-all, left-none, left-full, left-line, next-none, next-is}
-use Rattle.held.specs.declared.Held.{Held}
+use Rattle.held.specs.declared.tables.Tables.{Tables}
 use Rattle.walk.specs.Turn.{gotAt}
 use Rattle.walk.specs.Readings.{Line-read, reader}
 use Rattle.walk.specs.declared.turn.Got.{Got}
@@ -57,12 +57,12 @@ so-ready c n place number lines refused = and (yes≤ place) (and (yes≤ number
 abbrev placed : Carried → ℕ → ℕ
 placed c at = c .walk .at .place + at
 
-abbrev behind : Carried → Held → ℕ → Trailer → ℕ → fold.Carried Held Trailer
+abbrev behind : Carried → Tables → ℕ → Trailer → ℕ → fold.Carried Tables Trailer
 behind c h n t at = record { number = n; place = placed c at; held = h; made = t }
 
 module _ (p : Product) (names : List ℕ) (c : Carried) (s b₀ : List ℕ) where
   -- The lines before the place were taken.
-  pub record Feeding (b : List ℕ) (h : Held) (n : ℕ) (t : Trailer) (at end : ℕ) : Type 0 where
+  pub record Feeding (b : List ℕ) (h : Tables) (n : ℕ) (t : Trailer) (at end : ℕ) : Type 0 where
     pub reached : Reached reader countStep (view c) s at (behind c h n t at)
     pub left : Left reader countStep (productLineOf p names) (view c) s (length b₀) at (behind c h n t at) end
     pub wrote : Wrote b₀ 0 (texts (productLineOf p names) (readOn reader (view c) (take at s))) b end
@@ -83,7 +83,7 @@ module _ {p : Product} {names : List ℕ} {c : Carried} {s b₀ : List ℕ} wher
         ready = e;
       }
 
-  module _ {b : List ℕ} {h : Held} {n : ℕ} {t : Trailer} {at end : ℕ} (f : Feeding p names c s b₀ b h n t at end) where
+  module _ {b : List ℕ} {h : Tables} {n : ℕ} {t : Trailer} {at end : ℕ} (f : Feeding p names c s b₀ b h n t at end) where
     -- No place passes 64 bits.
     pub place-small : placed c at ≤ largest
     place-small = omega (arith, within-64-bits c (length s) (f .ready) .0, f .reached .inside)
@@ -119,7 +119,7 @@ module _ {p : Product} {names : List ℕ} {c : Carried} {s b₀ : List ℕ} wher
         let none = next-none reader countStep (productLineOf p names) (view c) s at i in
         stops (left-none (f .left) i) (rw (none, append-nil) (f .wrote .content))
 
-    module _ {g : Got} {l b′ : List ℕ} {h′ : Held} {to : ℕ} (i : at < length s) (e : g ≡ gotAt at s)
+    module _ {g : Got} {l b′ : List ℕ} {h′ : Tables} {to : ℕ} (i : at < length s) (e : g ≡ gotAt at s)
         (v : l ≡ partBytes (g .line) s) (k : h′ ≡ reader .after (placed c at) h l)
         (u : Wrote b end (productLine p names (n + 1) l (readingRes (g .reading)) h′) b′ to) where
       -- The text of the line, as that of its reading.

@@ -5,7 +5,7 @@ use Rattle.log.specs.Fold as fold
 use Rattle.log.specs.Pieces.{joined, Whole, fedAll, textsAll}
 use Rattle.log.proofs.Pieces.{in-pieces as pieces, place-is}
 use Rattle.log.proofs.Reached as reached
-use Rattle.held.specs.declared.Held.{Held}
+use Rattle.held.specs.declared.tables.Tables.{Tables}
 use Rattle.walk.specs.Cursor.{start}
 use Rattle.walk.specs.Walk as walk
 use Rattle.walk.specs.Readings.{reader}
@@ -52,7 +52,7 @@ module _ {p : Product} {names : List ℕ} where
   whole-is {ps} rows h =
       let law = pieces reader countStep in
       let all = all-fed rows in
-      let made = ap (λ (k : fold.Carried Held Trailer). k .made) (all .0 ∙ law .all _ ps h) in
+      let made = ap (λ (k : fold.Carried Tables Trailer). k .made) (all .0 ∙ law .all _ ps h) in
       rw (
         all .1 ∙ law .text (productLineOf p names) _ ps h,
         made ∙ law .made _ (joined ps),
@@ -73,7 +73,7 @@ still-ready : (p : Product) (names : List ℕ) (c : Carried) (s b b′ : List �
 still-ready p names c s b b′ r n k e =
     let at = called p names c s b b′ r k .0 in
     let w = within-64-bits c (r .taken + n) e in
-    let place = ap (λ (k : fold.Carried Held Trailer). k .place) (at .made) ∙ place-is reader countStep (view c) _ in
+    let place = ap (λ (k : fold.Carried Tables Trailer). k .place) (at .made) ∙ place-is reader countStep (view c) _ in
     so-ready (r .carried) n
     (omega (arith, w .0, place, length-take-le (r .taken) s (at .inside)))
     (omega (arith, w .1, reached.few at))

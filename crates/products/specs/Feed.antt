@@ -2,7 +2,7 @@
 use Rattle.text.specs.Prelude.{ℕ, _+_, _≡_, Bool, true, false, List, length, _≤?_, _∧?_, largest}
 use Rattle.log.specs.Fold as fold
 use Rattle.log.specs.Taking.{Took}
-use Rattle.held.specs.declared.Held.{Held}
+use Rattle.held.specs.declared.tables.Tables.{Tables}
 use Rattle.walk.specs.Walk as walk
 use Rattle.walk.specs.Readings.{reader}
 use Rattle.trailer_text.specs.Trailer.{nothing, countStep}
@@ -15,7 +15,7 @@ unfoldable pub atFirst : Carried
 atFirst = record { walk = walk.fresh; trailer = nothing }
 
 -- The same as every fold carries it.
-abbrev pub view : Carried → fold.Carried Held Trailer
+abbrev pub view : Carried → fold.Carried Tables Trailer
 view c = record { number = c .walk .at .number; place = c .walk .at .place; held = c .walk .held; made = c .trailer }
 
 -- No place and no count passes 64 bits over n bytes more.

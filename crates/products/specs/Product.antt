@@ -3,7 +3,7 @@ use Rattle.text.specs.Prelude.{ℕ, List, [], _++_, Res}
 use Rattle.records.specs.declared.Record.{Record}
 use Rattle.log.specs.Log.{readings}
 use Rattle.log.specs.Fold.{over, texts}
-use Rattle.held.specs.declared.Held.{Held}
+use Rattle.held.specs.declared.tables.Tables.{Tables}
 use Rattle.walk.specs.Readings.{Line-read, reader}
 use Rattle.trailer_text.specs.Trailer.{nothing, countStep, trailerText}
 use Rattle.trailer_text.specs.declared.Trailer.{Trailer}
@@ -13,7 +13,7 @@ use Rattle.products.specs.declared.Product.{Product}
 use Rattle.products.specs.declared.Product.the-variants.{Listing, Fields}
 
 -- Line n with the text s, answered m, at which h is in force, with the names asked for.
-unfoldable pub productLine : Product → List ℕ → ℕ → List ℕ → Res Record → Held → List ℕ
+unfoldable pub productLine : Product → List ℕ → ℕ → List ℕ → Res Record → Tables → List ℕ
 productLine Listing names n s m h = listingLine n s m
 productLine Fields names n s m h = fieldsLine n s m h names
 

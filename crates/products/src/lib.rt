@@ -7,7 +7,7 @@ ghost use Rattle.put.specs.Put.{Wrote};
 ghost use Rattle.records.specs.Record.{readingRes};
 ghost use Rattle.products.specs.Product.{productLine, closing};
 ghost use Rattle.products.specs.Feed.{atFirst, isReady, FedOf, Feeds};
-use held::Held;
+use held::tables::Tables;
 use records::Reading;
 use trailer_text::Trailer;
 use walk::Walk;
@@ -41,7 +41,7 @@ fn put_line(
     number: u64,
     line: &[u8],
     reading: Reading,
-    held: Held,
+    held: Tables,
     names: &[u8],
 ) -> usize
     ensures { λ r.
@@ -72,7 +72,7 @@ fn put_ready(product: Product, c: Carried, lines: &[u8], names: &[u8], buf: &mut
         let part = got.line;
         let reading = got.reading;
         let line = part.view(lines);
-        let after = held.after(b'I', line);
+        let after = held.after(line);
         let to = put_line(buf, end, product, number + 1, line, reading, after, names);
         if buf.len() < to {
             let at = Cursor {

@@ -14,6 +14,7 @@ use Rattle.b_record.proofs.Answers.{fix-undone, b-undone}
 use Rattle.c_record.proofs.Answers.{declaration-undone}
 use Rattle.c_turnpoint_record.proofs.Answers.{turnpoint-undone}
 use Rattle.h_record.proofs.Answers.{h-undone}
+use Rattle.k_record.proofs.Answers.{k-undone}
 use Rattle.records.proofs.Answers.{reading-undone}
 use Rattle.bench_loops.specs.Timed.{Out}
 use Rattle.promises.specs.Determined.{Tells, Determined}
@@ -42,6 +43,7 @@ determined = record {
   declaration = tells _ _ _ declaration-undone;
   turnpoint = tells _ _ _ turnpoint-undone;
   h = tells _ _ _ h-undone;
+  k = tells _ _ _ k-undone;
   reading = tells _ _ _ reading-undone;
   shows = shows-one;
   wrote = wrote-one;

@@ -19,6 +19,7 @@ use Rattle.b_record.specs.BRecord.{validLetter, validOf, readHeights, readFix, 
 use Rattle.c_record.specs.CRecord.{turns, readFlight, readTask, readDeclaration, flightText, taskText, declarationBody}
 use Rattle.c_record.specs.CRecord.{declarationText}
 use Rattle.c_turnpoint_record.specs.CTurnpoint.{readTurnpoint, turnpointBody, turnpointText}
+use Rattle.k_record.specs.KRecord.{readTimed, readK, kBody, kText}
 use Rattle.records.specs.Record.{kindOf, readC, readKind, readLine, recordText, recordTable, answerPrinted, reprinted}
 use Rattle.promises.specs.Spelt.{speltFrom, spelt}
 use Rattle.promises.specs.Back.{Needed}
@@ -34,7 +35,7 @@ unfolding
     readDefinition readExtension extensionText tableOf readDefs readBody isTable readTable defsOf defsText tableBody
     tableText tableRead aNew aOf letterForm readA tripleText aBody aText validLetter validOf readHeights readFix
     readB tailText bBody bText turns readFlight readTask readDeclaration flightText taskText declarationBody
-    declarationText readTurnpoint turnpointBody turnpointText kindOf readC readKind readLine recordText recordTable
+    declarationText readTurnpoint turnpointBody turnpointText readTimed readK kBody kText kindOf readC readKind readLine recordText recordTable
     answerPrinted reprinted speltFrom spelt
 needed = record {
   letter-form = refl;
@@ -52,6 +53,7 @@ needed = record {
   definitions = refl;
   start = refl;
   end = refl;
+  data-time = refl;
   pressure-zero = refl;
   gps-zero = refl;
   count-zero = refl;

@@ -13,6 +13,7 @@ pub mod Recorders
 pub mod Fixes
 pub mod Tasks
 pub mod Headers
+pub mod Data
 pub mod Tables
 pub mod Lines
 pub mod Shown

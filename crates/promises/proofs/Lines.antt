@@ -17,6 +17,7 @@ use Rattle.promises.proofs.Recorders.{a-again}
 use Rattle.promises.proofs.Fixes.{b-again}
 use Rattle.promises.proofs.Tasks.{declaration-again, turnpoint-again}
 use Rattle.promises.proofs.Headers.{h-again}
+use Rattle.promises.proofs.Data.{k-again}
 use Rattle.promises.proofs.Tables.{table-again}
 
 module _ (s : List ℕ) where
@@ -53,9 +54,10 @@ module _ (s : List ℕ) where
       begins 72 (λ h. rw h (finds-bind (h-again s h) (λ r a. finds-ok a))) (λ nh.
       begins 73 (λ h. rw h (finds-bind (table-line 73 h) (λ ds a. finds-ok a))) (λ ni.
       begins 74 (λ h. rw h (finds-bind (table-line 74 h) (λ ds a. finds-ok a))) (λ nj.
+      begins 75 (λ h. rw h (finds-bind (k-again s h) (λ r a. finds-ok a))) (λ nk.
       by-test (isNotTaken (byte 0 s))
-      (λ e. rw (na, nb, nc, nh, ni, nj, e) (finds-ok (printed-always whole-text)))
-      (λ e. rw (na, nb, nc, nh, ni, nj, e) (finds-ok (printed-always whole-text)))))))))
+      (λ e. rw (na, nb, nc, nh, ni, nj, nk, e) (finds-ok (printed-always whole-text)))
+      (λ e. rw (na, nb, nc, nh, ni, nj, nk, e) (finds-ok (printed-always whole-text))))))))))
 
   pub line-again : Finds (readLine s) (λ r. Again (lineOdd s) s (recordText r t s))
   unfolding readLine

@@ -12,12 +12,13 @@ use Rattle.b_record.specs.BRecord.{bText}
 use Rattle.c_record.specs.CRecord.{declarationText}
 use Rattle.c_turnpoint_record.specs.CTurnpoint.{turnpointText}
 use Rattle.h_record.specs.HRecord.{hText}
+use Rattle.k_record.specs.KRecord.{kText}
 use Rattle.records.specs.Record.{readLine, recordText, recordPiece, recordTable, answerPrinted, reprinted}
 use Rattle.records.specs.declared.Record.{Record}
 use Rattle.log.specs.Line.{lineText}
 use Rattle.log.specs.Log.{chunks, readFrom, readings}
 use Rattle.log.specs.Fold.{texts}
-use Rattle.held.specs.declared.Held.{Held}
+use Rattle.held.specs.declared.tables.Tables.{Tables}
 use Rattle.walk.specs.Readings.{reader}
 use Rattle.fields_text.specs.Line.{seen, fieldsShown, fieldsLine, fieldsOf, fieldsText}
 use Rattle.promises.specs.Fields.{fieldsAs, lineAs, Shown}
@@ -33,7 +34,7 @@ text-is-shown (no n) s = finds-no
 
 -- the text of a record is its piece
 text-is-piece : (r : Record) (t : Table) (s : List ℕ) → Finds (recordText r t s) (λ x. recordPiece r t s ≡ x)
-unfolding recordText recordPiece aText bText declarationText turnpointText hText tableText partText maybeText
+unfolding recordText recordPiece aText bText declarationText turnpointText hText kText tableText partText maybeText
 text-is-piece (Record.A r) t s =
     finds-bind (text-is-shown _ s) (λ id i. finds-bind (text-is-shown _ s) (λ rest e. finds-ok (rw (i, e))))
 text-is-piece (Record.B r) t s = finds-bind (text-is-shown _ s) (λ rest e. finds-ok (rw e))
@@ -45,6 +46,7 @@ text-is-piece (Record.H r) t s =
     finds-bind (text-is-shown _ s) (λ d k. finds-ok (rw (i, j, k)))))
 text-is-piece Record.I t s = finds-guard _ (λ _. finds-ok refl)
 text-is-piece Record.J t s = finds-guard _ (λ _. finds-ok refl)
+text-is-piece (Record.K r) t s = finds-bind (text-is-shown _ s) (λ rest e. finds-ok (rw e))
 text-is-piece (Record.NotTaken p) t s = text-is-shown _ s
 text-is-piece (Record.Unrecognised p) t s = text-is-shown _ s
 
@@ -59,6 +61,7 @@ own-table (Record.CTurnpoint r) s = refl
 own-table (Record.H r) s = refl
 own-table Record.I s = refl
 own-table Record.J s = refl
+own-table (Record.K r) s = refl
 own-table (Record.NotTaken p) s = refl
 own-table (Record.Unrecognised p) s = refl
 
@@ -73,14 +76,14 @@ piece-printed s r e =
 -- ---- a log
 
 -- the fields of a line are those with the line read and printed again in them
-fields-printed : (m : Res Record) (h : Held) (names s : List ℕ)
+fields-printed : (m : Res Record) (h : Tables) (names s : List ℕ)
     → readLine s ≡ m → fieldsShown m h names s ≡ fieldsAs m (reprinted s) h names s
 unfolding fieldsShown seen fieldsAs
 fields-printed (ok r) h names s e = rw (piece-printed s r e)
 fields-printed (no n) h names s e = refl
 
 -- so are the texts of all lines that are read
-lines-printed : (names : List ℕ) (n p : ℕ) (h : Held) (cs : List (List ℕ))
+lines-printed : (names : List ℕ) (n p : ℕ) (h : Tables) (cs : List (List ℕ))
     → texts (fieldsOf names) (readFrom reader n p h cs) ≡ texts (lineAs names) (readFrom reader n p h cs)
 unfolding readFrom texts fieldsOf fieldsLine lineAs
 lines-printed names n p h [] = refl

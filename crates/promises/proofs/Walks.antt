@@ -8,8 +8,8 @@ use Rattle.log.specs.Line.{cutAt}
 use Rattle.log.specs.Log.{chunks, readFrom, readings}
 use Rattle.log.proofs.Ends.{by-test}
 use Rattle.log.proofs.Cuts.{read-past, read-line, next-gt, next-le, cut-viewed}
-use Rattle.held.specs.Held.{noTable, heldAfter}
-use Rattle.held.specs.declared.Held.{Held}
+use Rattle.held.specs.Tables.{noTables, tablesAfter}
+use Rattle.held.specs.declared.tables.Tables.{Tables}
 use Rattle.walk.specs.Cursor.{start, past, nextOf}
 use Rattle.walk.specs.Walk.{fresh, stepTo, stepOf}
 use Rattle.walk.specs.Readings.{reader, readBy, walked}
@@ -32,7 +32,7 @@ module _ (s : List ℕ) (w : Walk) where
 
   -- the walk after it
   abbrev then : Walk
-  then = record { at = past (w .at) (cutAt (w .at .place) s); held = heldAfter 73 (w .held) at }
+  then = record { at = past (w .at) (cutAt (w .at .place) s); held = tablesAfter (w .held) at }
 
   -- at or past the end there is no line
   done-past : length s ≤ w .at .place → stepOf s w ≡ record { walk = w; taken = Done }
@@ -63,7 +63,7 @@ unfolding fresh start readings
 fresh-reads log h k = walked-from log k fresh (omega arith) (omega arith)
 
 -- inside the log the desk's reader hands out what a walk from there reads
-handed-walked : (log : RefT (List ℕ)) (k : ℕ) (c : Cursor) (h : Held) → c .place ≤ length (now log)
+handed-walked : (log : RefT (List ℕ)) (k : ℕ) (c : Cursor) (h : Tables) → c .place ≤ length (now log)
     → handedOut k (readerAt log c) h ≡ walked k (now log) (record { at = c; held = h })
 unfolding handedOut handedBy walked readBy stepOf stepTo nextOf past pick
 handed-walked log zero c h i = refl
@@ -82,6 +82,6 @@ walks = record {
   fresh-reads = fresh-reads;
   done-past = done-past;
   done-full = λ log w h. ap (stepTo log w) (sym (second _ (second-fails _ (no≤ (omega arith))) refl));
-  reader-reads = λ log h k. handed-walked log k start noTable (omega arith) ∙ fresh-reads (now log) h k;
+  reader-reads = λ log h k. handed-walked log k start noTables (omega arith) ∙ fresh-reads (now log) h k;
   listing-of-steps = λ log h k enough. ap listed (sym (fresh-reads log h k ∙ take-all k (readings reader log) enough));
 }

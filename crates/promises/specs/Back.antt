@@ -63,10 +63,12 @@ pub record Needed : Type 0 where
   pub flight-date : reprinted (spelt "C230718092044+50718000204") ≡ ok (spelt "C230718092044050718000204")
   pub task : reprinted (spelt "C230718092044000000+00204") ≡ ok (spelt "C230718092044000000000204")
   pub count : reprinted (spelt "C2307180920440000000002+4") ≡ ok (spelt "C230718092044000000000204")
-  -- I and J lines.
+  -- I and J lines,
   pub definitions : reprinted (spelt "I+13638FXA") ≡ ok (spelt "I013638FXA")
   pub start : reprinted (spelt "I01+638FXA") ≡ ok (spelt "I010638FXA")
   pub end : reprinted (spelt "J0108+9HDT") ≡ ok (spelt "J010809HDT")
+  -- K lines.
+  pub data-time : reprinted (spelt "K10+53000270") ≡ ok (spelt "K10053000270")
   -- A height was `-0000`.
   pub pressure-zero : reprinted (spelt "B1015304712345N01102500EA-000001561")
       ≡ ok (spelt "B1015304712345N01102500EA0000001561")

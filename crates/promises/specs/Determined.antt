@@ -19,6 +19,7 @@ use Rattle.b_record.specs.BRecord.{validRes, bRes}
 use Rattle.c_record.specs.CRecord.{declarationRes}
 use Rattle.c_turnpoint_record.specs.CTurnpoint.{turnpointRes}
 use Rattle.h_record.specs.HRecord.{hRes}
+use Rattle.k_record.specs.KRecord.{kRes}
 use Rattle.records.specs.Record.{readingRes}
 use Rattle.log.specs.Log.{Reader, LineRead}
 use Rattle.log.specs.Fold.{Carried}
@@ -48,6 +49,7 @@ pub record Determined : Type 1 where
   pub declaration : Tells declarationRes
   pub turnpoint : Tells turnpointRes
   pub h : Tells hRes
+  pub k : Tells kRes
   pub reading : Tells readingRes
   pub shows : {line r₁ r₂ : RefT (List ℕ)} {p : Part} → Shows line p r₁ → Shows line p r₂ →
       (now r₁ ≡ now r₂) × (r₁ .ptr ≡ r₂ .ptr)

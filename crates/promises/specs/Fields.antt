@@ -4,14 +4,14 @@ use Rattle.records.specs.Record.{readLine, recordTable, recordPiece, reprinted}
 use Rattle.records.specs.declared.Record.{Record}
 use Rattle.log.specs.Log.{readings}
 use Rattle.log.specs.Fold.{texts}
-use Rattle.held.specs.declared.Held.{Held}
+use Rattle.held.specs.declared.tables.Tables.{Tables}
 use Rattle.walk.specs.Readings.{Line-read, reader}
 use Rattle.listing_text.specs.Line.{headText}
 use Rattle.record_text.specs.Record.{recordShown}
 use Rattle.fields_text.specs.Line.{bookShown, printedShown, fieldsText}
 
 -- The fields of an accepted line, its verdict and its text as printed; a refused line has none.
-unfoldable pub fieldsAs : Res Record → Res (List ℕ) → Held → List ℕ → List ℕ → List ℕ
+unfoldable pub fieldsAs : Res Record → Res (List ℕ) → Tables → List ℕ → List ℕ → List ℕ
 fieldsAs (ok r) (ok printed) h names s = recordShown r (recordTable r s) h names s
     ++ (bookShown r ++ printedShown printed)
 fieldsAs (ok r) (no n) h names s = []

@@ -52,6 +52,10 @@ turnpointOdd s = positionPlus (cut 1 18 s)
 unfoldable pub tableOdd : List ℕ → Bool
 tableOdd s = plus (cut 1 3 s) ∨? defsPlus ((length s - 3) / 7) (drop 3 s)
 
+-- K: the time 1-7.
+unfoldable pub kOdd : List ℕ → Bool
+kOdd s = threePlus (cut 1 7 s)
+
 -- A line, by its first byte. H lines, and lines that are not taken or not recognised, are never odd.
 unfoldable pub lineOdd : List ℕ → Bool
 lineOdd s =
@@ -59,4 +63,5 @@ lineOdd s =
     (pick (byte 0 s =? code "B") (fixOdd s)
     (pick (byte 0 s =? code "C") (pick (turns s) (turnpointOdd s) (declarationOdd s))
     (pick ((byte 0 s =? code "I") ∨? (byte 0 s =? code "J")) (tableOdd s)
-    false)))
+    (pick (byte 0 s =? code "K") (kOdd s)
+    false))))

@@ -1,7 +1,7 @@
 -- A fresh walk reads every line of the log once, in order, before it is done; and so does the desk's reader.
 use Rattle.text.specs.Prelude.{ℕ, _≤_, _≡_, List, length, take, RefT, now, largest}
 use Rattle.log.specs.Log.{readings}
-use Rattle.held.specs.Held.{noTable}
+use Rattle.held.specs.Tables.{noTables}
 use Rattle.walk.specs.Cursor.{start}
 use Rattle.walk.specs.Walk.{fresh, stepOf}
 use Rattle.walk.specs.Readings.{reader, walked}
@@ -21,7 +21,7 @@ pub record Walks : Type 0 where
   -- What the functions of `LogReader` hand out, one after the other, are the readings of a fresh walk with their
   -- tables.
   pub reader-reads : (log : RefT (List ℕ)) → length (now log) ≤ largest → (k : ℕ) →
-      handedOut k (readerAt log start) noTable ≡ take k (readings reader (now log))
+      handedOut k (readerAt log start) noTables ≡ take k (readings reader (now log))
   -- The listing, its trailer's counts too, is over the steps of a fresh walk: of as many as there are lines, or of
   -- more.
   pub listing-of-steps : (log : List ℕ) → length log ≤ largest → (k : ℕ) → length (readings reader log) ≤ k →

@@ -1,11 +1,11 @@
 -- A reader of a lent log, and what it shows at its place.
-use Rattle.text.specs.Prelude.{ℕ, zero, suc, code, List, [], _∷_, RefT, now}
+use Rattle.text.specs.Prelude.{ℕ, zero, suc, List, [], _∷_, RefT, now}
 use Rattle.part.specs.Part.{bytesOf, findPart, shown}
 use Rattle.part.specs.declared.Part.{Part}
 use Rattle.log.specs.Line.{cutAt}
 use Rattle.records.specs.Record.{readLine}
-use Rattle.held.specs.Held.{heldAfter}
-use Rattle.held.specs.declared.Held.{Held}
+use Rattle.held.specs.Tables.{tablesAfter}
+use Rattle.held.specs.declared.tables.Tables.{Tables}
 use Rattle.walk.specs.Cursor.{nextOf}
 use Rattle.walk.specs.Readings.{Line-read}
 use Rattle.walk.specs.declared.{cursor.Cursor.Cursor, cursor.Next.Next}
@@ -31,7 +31,7 @@ textAt place s = bytesOf (partAt place s) s
 -- ---- what is handed out
 
 -- The reading of the line that `next_line` found, in front of what is read from the cursor after it.
-unfoldable pub handedBy : List ℕ → Held → ℕ → Next → (Cursor → List Line-read) → List Line-read
+unfoldable pub handedBy : List ℕ → Tables → ℕ → Next → (Cursor → List Line-read) → List Line-read
 handedBy s h place Done later = []
 handedBy s h place (Line cut after) later =
     record {
@@ -39,14 +39,14 @@ handedBy s h place (Line cut after) later =
       place = cut .line .start;
       line = textAt place s;
       answer = readLine (textAt place s);
-      held = heldAfter (code "I") h (textAt place s);
+      held = tablesAfter h (textAt place s);
     }
     ∷ later after
 
 -- What k turns of the desk hand out, from a reader and what is held there: `next_line` finds the line, `line` shows its
--- text, to which `Record::parse_line` answers, `table` says what is held after it, and `moved` goes on.
-unfoldable pub handedOut : ℕ → LogReader → Held → List Line-read
+-- text, to which `Record::parse_line` answers, `tables` says what is held after it, and `moved` goes on.
+unfoldable pub handedOut : ℕ → LogReader → Tables → List Line-read
 handedOut zero r h = []
 handedOut (suc k) r h =
     handedBy (now (r .log)) h (r .place) (nextOf (now (r .log)) (cursorOf r))
-    (λ after. handedOut k (readerAt (r .log) after) (heldAfter (code "I") h (textAt (r .place) (now (r .log)))))
+    (λ after. handedOut k (readerAt (r .log) after) (tablesAfter h (textAt (r .place) (now (r .log)))))

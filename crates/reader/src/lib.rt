@@ -1,10 +1,10 @@
 // The lent log with the walk's place and line number, for the desk: thin, over functions with plain parameters.
 ghost use mathlib.Core.Path.{_≡_};
 ghost use Rattle.part.specs.Part.{Shows};
-ghost use Rattle.held.specs.Held.{heldAfter};
+ghost use Rattle.held.specs.Tables.{tablesAfter};
 ghost use Rattle.walk.specs.Cursor.{start, nextOf};
 ghost use Rattle.reader.specs.Reader.{readerAt, cursorOf, partAt, textAt};
-use held::Held;
+use held::tables::Tables;
 use log::line_at;
 use walk::cursor::Cursor;
 use walk::cursor::Next;
@@ -25,12 +25,12 @@ pub fn next_at(log: &[u8], place: usize, number: u64) -> Next
     at.next(log)
 }
 
-// What is held after that line: I lines set or remove the table.
-pub fn table_at(log: &[u8], place: usize, held: Held) -> Held
-    ensures { λ r. ⌜ r ≡ heldAfter 73 held (textAt place (now (log .entry))) ⌝ }
+// What is held after that line: I and J lines set or remove their tables.
+pub fn tables_at(log: &[u8], place: usize, held: Tables) -> Tables
+    ensures { λ r. ⌜ r ≡ tablesAfter held (textAt place (now (log .entry))) ⌝ }
 {
     let line = line_at(log, place);
-    held.after(b'I', line)
+    held.after(line)
 }
 
 // ---- the reader
@@ -72,8 +72,8 @@ pub fn line<'a>(r: LogReader<'a>) -> &'a [u8]
 }
 
 // What is held after the line at the place.
-pub fn table<'a>(r: LogReader<'a>, held: Held) -> Held
-    ensures { λ h. ⌜ h ≡ heldAfter 73 held (textAt (r .entry .place) (now (r .entry .log))) ⌝ }
+pub fn tables<'a>(r: LogReader<'a>, held: Tables) -> Tables
+    ensures { λ h. ⌜ h ≡ tablesAfter held (textAt (r .entry .place) (now (r .entry .log))) ⌝ }
 {
-    table_at(r.log, r.place, held)
+    tables_at(r.log, r.place, held)
 }

@@ -12,8 +12,9 @@ use Rattle.c_record.specs.declared.CRecordDeclaration.{CRecordDeclaration}
 use Rattle.c_turnpoint_record.specs.declared.CRecordTurnpoint.{CRecordTurnpoint}
 use Rattle.h_record.specs.HRecord.{sourceByte}
 use Rattle.h_record.specs.declared.HRecord.{HRecord}
+use Rattle.k_record.specs.declared.KRecord.{KRecord}
 use Rattle.records.specs.declared.Record.{Record}
-use Rattle.held.specs.declared.Held.{Held}
+use Rattle.held.specs.declared.{Held.Held, tables.Tables.Tables}
 use Rattle.log.specs.Fold.{texts}
 use Rattle.record_text.specs.Piece.{numberShown, pressureShown, gpsShown, byteShown, partShown, maybeShown}
 use Rattle.record_text.specs.Piece.{timeShown, dateShown, flightShown, positionShown, letterShown, tripleShown}
@@ -35,7 +36,12 @@ fixShown r =
 unfoldable pub bShown : BRecord → Held → List ℕ → List ℕ → List ℕ
 bShown r h names s =
     timeShown (r .timestamp)
-    ++ (positionShown (r .pos) ++ (fixShown r ++ texts (valueShown h (r .rest) s) (askedFor h names)))
+    ++ (positionShown (r .pos) ++ (fixShown r ++ texts (valueShown 35 h (r .rest) s) (askedFor h names)))
+
+-- Time, rest, and the values of the names asked for.
+unfoldable pub kShown : KRecord → Held → List ℕ → List ℕ → List ℕ
+kShown r h names s =
+    timeShown (r .time) ++ (partShown (r .rest) ++ texts (valueShown 7 h (r .rest) s) (askedFor h names))
 
 -- Task, count, name.
 unfoldable pub taskShown : CRecordDeclaration → List ℕ
@@ -64,14 +70,16 @@ definitionShown e = numberShown (e .«start_byte»)
 unfoldable pub tableShown : Table → List ℕ
 tableShown t = numberShown (t .count) ++ texts definitionShown (defsOf t)
 
--- The fields of a record of the line s; t is that line's own table, h what is in force at it.
-unfoldable pub recordShown : Record → Table → Held → List ℕ → List ℕ → List ℕ
+-- The fields of a record of the line s; t is that line's own table, h what is in force at it: the values of a B line are
+-- looked up in the I lines' table, those of a K line in the J lines'.
+unfoldable pub recordShown : Record → Table → Tables → List ℕ → List ℕ → List ℕ
 recordShown (Record.A r) t h names s = aShown r
-recordShown (Record.B r) t h names s = bShown r h names s
+recordShown (Record.B r) t h names s = bShown r (h .i) names s
 recordShown (Record.CDeclaration r) t h names s = declarationShown r
 recordShown (Record.CTurnpoint r) t h names s = turnpointShown r
 recordShown (Record.H r) t h names s = hShown r
 recordShown Record.I t h names s = tableShown t
 recordShown Record.J t h names s = tableShown t
+recordShown (Record.K r) t h names s = kShown r (h .j) names s
 recordShown (Record.NotTaken p) t h names s = []
 recordShown (Record.Unrecognised p) t h names s = []

@@ -1,4 +1,4 @@
--- Values of extensions on a B line, looked up by name.
+-- Values of extensions on a B or a K line, looked up by name.
 use Rattle.text.specs.Prelude.{ℕ, code, List, [], _∷_, _++_, length, Res, ok, no, pick, numberOf, _≤?_, padded}
 use Rattle.part.specs.declared.Part.{Part}
 use Rattle.field.specs.Field.{mnemonicText}
@@ -14,10 +14,10 @@ unfoldable pub foundText : Res Part → List ℕ
 foundText (ok p) = (code "0" ∷ []) ++ ((code "@" ∷ []) ++ placeText p)
 foundText (no n) = padded 1 (numberOf n)
 
--- NAME=ANSWER, by lookup by name on a line with 35 fixed columns and this rest.
-unfoldable pub valueShown : Held → Part → List ℕ → Mnemonic → List ℕ
-valueShown h rest s name =
-    (code " " ∷ []) ++ (mnemonicText name ++ ((code "=" ∷ []) ++ foundText (lookUp 35 rest h name s)))
+-- NAME=ANSWER, by lookup by name on a line with so many fixed columns and this rest.
+unfoldable pub valueShown : ℕ → Held → Part → List ℕ → Mnemonic → List ℕ
+valueShown base h rest s name =
+    (code " " ∷ []) ++ (mnemonicText name ++ ((code "=" ∷ []) ++ foundText (lookUp base rest h name s)))
 
 -- The names of definitions, in their order.
 unfoldable pub namesOf : List Extension → List Mnemonic

@@ -3,7 +3,7 @@ ghost use Rattle.table.specs.Table.{defsOf};
 ghost use Rattle.put.specs.Put.{Wrote};
 ghost use Rattle.log.specs.Fold.{texts};
 ghost use Rattle.record_text.specs.Record.{aShown, fixShown, bShown, taskShown, declarationShown, turnpointShown};
-ghost use Rattle.record_text.specs.Record.{hShown, definitionShown, tableShown, recordShown};
+ghost use Rattle.record_text.specs.Record.{hShown, kShown, definitionShown, tableShown, recordShown};
 use crate::piece::show_byte;
 use crate::piece::show_date;
 use crate::piece::show_flight;
@@ -23,6 +23,8 @@ use c_turnpoint_record::CRecordTurnpoint;
 use extension::Extension;
 use h_record::HRecord;
 use held::Held;
+use held::tables::Tables;
+use k_record::KRecord;
 use print::number::put_i8;
 use print::number::put_nat;
 use put::put_byte;
@@ -69,7 +71,35 @@ fn show_b(buf: &mut [u8], at: usize, b: BRecord, held: Held, names: &[u8], line:
     let at_place = show_time(buf, at, timestamp);
     let at_fix = show_position(buf, at_place, pos);
     let at_values = show_fix(buf, at_fix, b);
-    show_values(buf, at_values, held, rest, names, line)
+    show_values(
+        buf,
+        at_values,
+        held,
+        BRecord::BASE_LENGTH,
+        rest,
+        names,
+        line,
+    )
+}
+
+// Time, rest, and the values of the names.
+fn show_k(buf: &mut [u8], at: usize, k: KRecord, held: Held, names: &[u8], line: &[u8]) -> usize
+    ensures { λ r. ⌜ Wrote (now (buf .entry)) at (kShown k held (now (names .entry)) (now (line .entry)))
+        (now (buf .exit)) r ⌝ }
+{
+    let time = k.time;
+    let rest = k.rest;
+    let at_rest = show_time(buf, at, time);
+    let at_values = show_part(buf, at_rest, rest);
+    show_values(
+        buf,
+        at_values,
+        held,
+        KRecord::BASE_LENGTH,
+        rest,
+        names,
+        line,
+    )
 }
 
 // Task, count, name.
@@ -153,13 +183,13 @@ fn show_table(buf: &mut [u8], at: usize, table: Table) -> usize
     show_definitions(buf, next, table)
 }
 
-// The fields of a record: the table is that of an I or a J line itself, `held` what is in force at a B line.
+// The fields of a record: the table is that of an I or a J line itself, `held` what is in force at a B or a K line.
 pub fn show_record(
     buf: &mut [u8],
     at: usize,
     rec: Record,
     table: Table,
-    held: Held,
+    held: Tables,
     names: &[u8],
     line: &[u8],
 ) -> usize
@@ -168,12 +198,13 @@ pub fn show_record(
 {
     match rec {
         Record::A(a) => show_a(buf, at, a),
-        Record::B(b) => show_b(buf, at, b, held, names, line),
+        Record::B(b) => show_b(buf, at, b, held.i, names, line),
         Record::CDeclaration(task) => show_declaration(buf, at, task),
         Record::CTurnpoint(point) => show_turnpoint(buf, at, point),
         Record::H(h) => show_h(buf, at, h),
         Record::I => show_table(buf, at, table),
         Record::J => show_table(buf, at, table),
+        Record::K(k) => show_k(buf, at, k, held.j, names, line),
         Record::NotTaken(_) => at,
         Record::Unrecognised(_) => at,
     }

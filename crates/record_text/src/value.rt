@@ -9,7 +9,6 @@ ghost use Rattle.table.specs.Table.{defsOf};
 ghost use Rattle.log.specs.Fold.{texts};
 ghost use Rattle.record_text.specs.Value.{foundText, valueShown, tableNames, askedFor};
 use crate::piece::put_place;
-use b_record::BRecord;
 use field::Mnemonic;
 use held::Held;
 use held::Slot;
@@ -33,18 +32,20 @@ fn put_found(buf: &mut [u8], at: usize, found: Found) -> usize
     }
 }
 
-// NAME=ANSWER on a B line with this rest.
+// NAME=ANSWER on a line with `base` fixed columns and this rest.
 pub fn show_value(
     buf: &mut [u8],
     at: usize,
     held: Held,
+    base: usize,
     rest: Part,
     name: Mnemonic,
     line: &[u8],
 ) -> usize
-    ensures { λ r. ⌜ Wrote (now (buf .entry)) at (valueShown held rest (now (line .entry)) name) (now (buf .exit)) r ⌝ }
+    ensures { λ r. ⌜ Wrote (now (buf .entry)) at (valueShown base held rest (now (line .entry)) name)
+        (now (buf .exit)) r ⌝ }
 {
-    let found = held.find(BRecord::BASE_LENGTH, rest, name, line);
+    let found = held.find(base, rest, name, line);
     let at_first = put_byte(buf, at, b' ');
     let at_sign = name.put(buf, at_first);
     let at_answer = put_byte(buf, at_sign, b'=');
@@ -98,17 +99,18 @@ fn asked_at(held: Held, names: &[u8], i: usize) -> Mnemonic
     Mnemonic(names[a], names[a + 1], names[a + 2])
 }
 
-// The values of a B line, in the order of the names.
+// The values of such a line, in the order of the names.
 pub fn show_values(
     buf: &mut [u8],
     at: usize,
     held: Held,
+    base: usize,
     rest: Part,
     names: &[u8],
     line: &[u8],
 ) -> usize
     ensures { λ r. ⌜ Wrote (now (buf .entry))
-        at (texts (valueShown held rest (now (line .entry))) (askedFor held (now (names .entry))))
+        at (texts (valueShown base held rest (now (line .entry))) (askedFor held (now (names .entry))))
         (now (buf .exit)) r ⌝ }
 {
     let n = asked_count(held, names);
@@ -116,7 +118,7 @@ pub fn show_values(
     let mut i = 0;
     while i < n {
         let name = asked_at(held, names, i);
-        end = show_value(buf, end, held, rest, name, line);
+        end = show_value(buf, end, held, base, rest, name, line);
         i += 1;
     }
     end

@@ -11,12 +11,12 @@ use Rattle.b_record.specs.BRecord.{readB, bPiece, bText, bBook}
 use Rattle.c_record.specs.CRecord.{turns, readDeclaration, declarationPiece, declarationText, declarationBook}
 use Rattle.c_turnpoint_record.specs.CTurnpoint.{readTurnpoint, turnpointPiece, turnpointText, turnpointBook}
 use Rattle.h_record.specs.HRecord.{readH, hPiece, hText}
+use Rattle.k_record.specs.KRecord.{readK, kPiece, kText, kBook}
 use Rattle.records.specs.declared.{Record.Record, MaybeFix.MaybeFix, Reading.Reading}
 
--- D, E, F, G, K and L are not taken.
+-- D, E, F, G and L are not taken.
 unfoldable pub isNotTaken : ℕ → Bool
-isNotTaken b = (b =? code "D") ∨? (b =? code "E") ∨? (b =? code "F") ∨? (b =? code "G") ∨? (b =? code "K")
-    ∨? (b =? code "L")
+isNotTaken b = (b =? code "D") ∨? (b =? code "E") ∨? (b =? code "F") ∨? (b =? code "G") ∨? (b =? code "L")
 
 -- The kinds of line.
 pub data Kind : Type 0 where
@@ -26,6 +26,7 @@ pub data Kind : Type 0 where
   H : Kind
   I : Kind
   J : Kind
+  K : Kind
   NotTaken : Kind
   Other : Kind
 
@@ -38,8 +39,9 @@ kindOf b =
     (pick (b =? code "H") H
     (pick (b =? code "I") I
     (pick (b =? code "J") J
+    (pick (b =? code "K") K
     (pick (isNotTaken b) NotTaken
-    Other))))))
+    Other)))))))
 
 -- The whole line.
 unfoldable pub whole : List ℕ → Part
@@ -61,6 +63,7 @@ readKind C s = readC s
 readKind H s = bind (readH s) (λ r. ok (Record.H r))
 readKind I s = bind (readTable s) (λ ds. ok Record.I)
 readKind J s = bind (readTable s) (λ ds. ok Record.J)
+readKind K s = bind (readK s) (λ r. ok (Record.K r))
 readKind NotTaken s = ok (Record.NotTaken (whole s))
 readKind Other s = ok (Record.Unrecognised (whole s))
 
@@ -77,6 +80,7 @@ recordText (Record.CTurnpoint r) t s = turnpointText r s
 recordText (Record.H r) t s = hText r s
 recordText Record.I t s = tableText (code "I") t
 recordText Record.J t s = tableText (code "J") t
+recordText (Record.K r) t s = kText r s
 recordText (Record.NotTaken p) t s = partText p s
 recordText (Record.Unrecognised p) t s = partText p s
 
@@ -90,6 +94,7 @@ recordPiece (Record.CTurnpoint r) t s = turnpointPiece r s
 recordPiece (Record.H r) t s = hPiece r s
 recordPiece Record.I t s = tableBody (code "I") t
 recordPiece Record.J t s = tableBody (code "J") t
+recordPiece (Record.K r) t s = kPiece r s
 recordPiece (Record.NotTaken p) t s = partBytes p s
 recordPiece (Record.Unrecognised p) t s = partBytes p s
 
@@ -102,6 +107,7 @@ recordTable (Record.B r) s = tableOf []
 recordTable (Record.CDeclaration r) s = tableOf []
 recordTable (Record.CTurnpoint r) s = tableOf []
 recordTable (Record.H r) s = tableOf []
+recordTable (Record.K r) s = tableOf []
 recordTable (Record.NotTaken p) s = tableOf []
 recordTable (Record.Unrecognised p) s = tableOf []
 
@@ -122,6 +128,7 @@ recordFix (Record.CTurnpoint r) = MaybeFix.Missing
 recordFix (Record.H r) = MaybeFix.Missing
 recordFix Record.I = MaybeFix.Missing
 recordFix Record.J = MaybeFix.Missing
+recordFix (Record.K r) = MaybeFix.Missing
 recordFix (Record.NotTaken p) = MaybeFix.Missing
 recordFix (Record.Unrecognised p) = MaybeFix.Missing
 
@@ -139,6 +146,7 @@ recordBook (Record.CTurnpoint r) = turnpointBook r
 recordBook (Record.H r) = true
 recordBook Record.I = true
 recordBook Record.J = true
+recordBook (Record.K r) = kBook r
 recordBook (Record.NotTaken p) = true
 recordBook (Record.Unrecognised p) = true
 
@@ -151,6 +159,7 @@ acceptedAs (Record.CTurnpoint r) = 0
 acceptedAs (Record.H r) = 0
 acceptedAs Record.I = 0
 acceptedAs Record.J = 0
+acceptedAs (Record.K r) = 0
 acceptedAs (Record.NotTaken p) = 11
 acceptedAs (Record.Unrecognised p) = 12
 

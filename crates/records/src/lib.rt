@@ -20,6 +20,8 @@ use c_turnpoint_record::CRecordTurnpoint;
 use c_turnpoint_record::TurnpointRead;
 use h_record::HRead;
 use h_record::HRecord;
+use k_record::KRead;
+use k_record::KRecord;
 use part::Part;
 use print::printed::Printed;
 use print::printed::print_part;
@@ -37,6 +39,7 @@ pub enum Record {
     H(HRecord),
     I,
     J,
+    K(KRecord),
     NotTaken(Part),
     Unrecognised(Part),
 }
@@ -124,11 +127,14 @@ impl Record {
             },
             b'I' => parse_table(line, Record::I),
             b'J' => parse_table(line, Record::J),
+            b'K' => match KRecord::parse(line) {
+                KRead::Ok(k) => Reading::Accepted(Record::K(k)),
+                KRead::Refused(no_k) => Reading::Refused(no_k),
+            },
             b'D' => Reading::Accepted(Record::NotTaken(whole_line(line))),
             b'E' => Reading::Accepted(Record::NotTaken(whole_line(line))),
             b'F' => Reading::Accepted(Record::NotTaken(whole_line(line))),
             b'G' => Reading::Accepted(Record::NotTaken(whole_line(line))),
-            b'K' => Reading::Accepted(Record::NotTaken(whole_line(line))),
             b'L' => Reading::Accepted(Record::NotTaken(whole_line(line))),
             _ => Reading::Accepted(Record::Unrecognised(whole_line(line))),
         }
@@ -146,6 +152,7 @@ impl Record {
             Record::H(h) => h.print(line, buf),
             Record::I => table.print(b'I', buf),
             Record::J => table.print(b'J', buf),
+            Record::K(k) => k.print(line, buf),
             Record::NotTaken(part) => print_part(part, line, buf),
             Record::Unrecognised(other) => print_part(other, line, buf),
         }
@@ -165,6 +172,7 @@ impl Record {
             Record::H(h) => h.put_piece(buf, at, line),
             Record::I => table.put_piece(buf, at, b'I'),
             Record::J => table.put_piece(buf, at, b'J'),
+            Record::K(k) => k.put_piece(buf, at, line),
             Record::NotTaken(part) => put_part(buf, at, line, part),
             Record::Unrecognised(other) => put_part(buf, at, line, other),
         }
@@ -182,6 +190,7 @@ impl Record {
             Record::H(_) => true,
             Record::I => true,
             Record::J => true,
+            Record::K(k) => k.by_the_book(),
             Record::NotTaken(_) => true,
             Record::Unrecognised(_) => true,
         }
@@ -199,6 +208,7 @@ impl Record {
             Record::CDeclaration(_) => Table::new(),
             Record::CTurnpoint(_) => Table::new(),
             Record::H(_) => Table::new(),
+            Record::K(_) => Table::new(),
             Record::NotTaken(_) => Table::new(),
             Record::Unrecognised(_) => Table::new(),
         }
@@ -216,6 +226,7 @@ impl Record {
             Record::H(_) => MaybeFix::Missing,
             Record::I => MaybeFix::Missing,
             Record::J => MaybeFix::Missing,
+            Record::K(_) => MaybeFix::Missing,
             Record::NotTaken(_) => MaybeFix::Missing,
             Record::Unrecognised(_) => MaybeFix::Missing,
         }
@@ -233,6 +244,7 @@ impl Record {
             Record::H(_) => 0,
             Record::I => 0,
             Record::J => 0,
+            Record::K(_) => 0,
             Record::NotTaken(_) => 11,
             Record::Unrecognised(_) => 12,
         }

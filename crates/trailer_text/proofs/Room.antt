@@ -5,7 +5,7 @@ use Rattle.text.proofs.Decimal.{places-le, length-padded}
 use Rattle.records.specs.Record.{readLine}
 use Rattle.log.specs.Line.{lineText}
 use Rattle.log.specs.Fold.{Carried, pastLine}
-use Rattle.held.specs.declared.Held.{Held}
+use Rattle.held.specs.declared.tables.Tables.{Tables}
 use Rattle.walk.specs.Readings.{reader}
 use Rattle.walk.proofs.Turns.{one-at-most}
 use Rattle.trailer_text.specs.Answer.{plain}
@@ -25,13 +25,13 @@ picked-has P true p q = p
 picked-has P false p q = q
 
 -- Counts of no more than the lines so far, and an offset of at most 20 characters.
-pub record Fits (c : Carried Held Trailer) : Type 0 where
+pub record Fits (c : Carried Tables Trailer) : Type 0 where
   pub lines : c .made .lines ≤ c .number
   pub refused : c .made .refused ≤ c .number
   pub offset : length (offsetText (c .made .«in_force»)) ≤ 20
 
 -- a trailer that fits has at most 65 characters
-pub trailer-le : {c : Carried Held Trailer} → Fits c → c .number ≤ largest → length (trailerText (c .made)) ≤ 65
+pub trailer-le : {c : Carried Tables Trailer} → Fits c → c .number ≤ largest → length (trailerText (c .made)) ≤ 65
 unfolding trailerText figures
 trailer-le {c} f h =
     let lines = plain-le 19 (c .made .lines) (omega arith) in
@@ -39,7 +39,7 @@ trailer-le {c} f h =
     simp length-append (omega arith)
 
 -- one line more still fits
-pub line-fits : {c : Carried Held Trailer} (k : List ℕ) → Fits c → c .place ≤ largest
+pub line-fits : {c : Carried Tables Trailer} (k : List ℕ) → Fits c → c .place ≤ largest
     → Fits (pastLine reader countStep c (lineText k) (length k))
 unfolding pastLine countStep counted forceAfter offsetText
 line-fits {c} k f h =

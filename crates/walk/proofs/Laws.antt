@@ -10,8 +10,8 @@ use Rattle.records.specs.declared.Reading.the-variants.{Accepted, Refused}
 use Rattle.log.specs.Line.{cutAt}
 use Rattle.log.specs.declared.Cut.{Cut}
 use Rattle.log.proofs.Cuts.{cut-inside}
-use Rattle.held.specs.Held.{heldAfter}
-use Rattle.held.specs.declared.Held.{Held}
+use Rattle.held.specs.Tables.{tablesAfter}
+use Rattle.held.specs.declared.tables.Tables.{Tables}
 use Rattle.walk.specs.Cursor.{past, nextOf}
 use Rattle.walk.specs.Walk.{readingOf, stepTo, stepOf}
 use Rattle.walk.specs.declared.{cursor.Cursor.Cursor, cursor.Next.Next, Walk.Walk, Step.Step}
@@ -56,7 +56,7 @@ module _ (s : List ℕ) where
   pub step-on : (w : Walk) → w .at .place < length s → w .at .number < largest
       → let l = bytesOf (cutAt (w .at .place) s .line) s in
       stepOf s w ≡ record {
-        walk = record { at = past (w .at) (cutAt (w .at .place) s); held = heldAfter 73 (w .held) l };
+        walk = record { at = past (w .at) (cutAt (w .at .place) s); held = tablesAfter (w .held) l };
         taken = Line (cutAt (w .at .place) s .line) (readingOf (readLine l));
       }
   unfolding stepOf stepTo
@@ -68,9 +68,9 @@ module _ (s : List ℕ) where
   step-done w e = rw (sym e)
 
   -- the line l of the cut, its reading r and what is held after it are the step
-  pub step-line : (w : Walk) {cut : Cut} {after : Cursor} {l : List ℕ} {r : Reading} {h : Held} →
+  pub step-line : (w : Walk) {cut : Cut} {after : Cursor} {l : List ℕ} {r : Reading} {h : Tables} →
       Next.Line cut after ≡ nextOf s (w .at)
-      → l ≡ bytesOf (shown (findPart (cut .line) s)) s → readingRes r ≡ readLine l → h ≡ heldAfter 73 (w .held) l
+      → l ≡ bytesOf (shown (findPart (cut .line) s)) s → readingRes r ≡ readLine l → h ≡ tablesAfter (w .held) l
       → _≡_ {A = Step} (record { walk = record { held = h; at = after }; taken = Line (cut .line) r }) (stepOf s w)
   unfolding stepOf stepTo
   step-line w {cut} {after} {l} {r} {h} e v a g =

@@ -11,7 +11,7 @@ use Rattle.log.specs.Fold.{over, texts, orElse, firstWith, keep, Carried, fresh
 use Rattle.log.specs.declared.Cut.{Cut}
 use Rattle.log.proofs.Reached as log
 use Rattle.log.proofs.Reached.{Reached}
-use Rattle.held.specs.declared.Held.{Held}
+use Rattle.held.specs.declared.tables.Tables.{Tables}
 use Rattle.walk.specs.Turn.{gotAt}
 use Rattle.walk.specs.Readings.{Line-read, reader}
 use Rattle.walk.specs.declared.turn.Got.{Got}
@@ -25,7 +25,7 @@ unfolding gotAt
 got s at {r} e v a = rw (reading-is r a, v, e)
 
 -- what was read there, as line n at the place p with h held after it
-abbrev pub gotRead : Got → List ℕ → ℕ → ℕ → Held → Line-read
+abbrev pub gotRead : Got → List ℕ → ℕ → ℕ → Tables → Line-read
 gotRead g s n p h =
     record { number = n; place = p; line = partBytes (g .line) s; answer = readingRes (g .reading); held = h }
 
@@ -42,16 +42,16 @@ module _ (at : ℕ) (s : List ℕ) {g : Got} (e : g ≡ gotAt at s) where
 
 -- ---- a turn, with all that is carried
 
-module _ {T : Type 0} {step : T → Line-read → T} {c₀ : Carried Held T} {s : List ℕ} {at n p : ℕ} {h : Held} {a : T}
+module _ {T : Type 0} {step : T → Line-read → T} {c₀ : Carried Tables T} {s : List ℕ} {at n p : ℕ} {h : Tables} {a : T}
     {g : Got}
     (i : at < length s) (r : Reached reader step c₀ s at (record { number = n; place = p; held = h; made = a }))
     (e : g ≡ gotAt at s) where
   -- what is held after the line
-  abbrev after : Held
+  abbrev after : Tables
   after = reader .after p h (partBytes (g .line) s)
 
   -- the line read here, with h′ held after it and a′ made of it, at the next place
-  pub turn : {p′ : ℕ} {h′ : Held} {a′ : T} → p′ + at ≡ p + g .next → h′ ≡ after →
+  pub turn : {p′ : ℕ} {h′ : Tables} {a′ : T} → p′ + at ≡ p + g .next → h′ ≡ after →
       a′ ≡ step a (gotRead g s (n + 1) p after) →
       Reached reader step c₀ s (g .next) (record { number = n + 1; place = p′; held = h′; made = a′ })
   turn q k m =
@@ -79,7 +79,7 @@ module _ {T : Type 0} (step : T → Line-read → T) (a₀ : T) (s : List ℕ) w
   -- a is what the lines before the place make of a₀
   pub record Made (at : ℕ) (a : T) : Type 0 where
     pub number : ℕ
-    pub held : Held
+    pub held : Tables
     pub reached : Reached reader step (fresh reader a₀) s
         at (record { number = number; place = at; held = held; made = a })
 
@@ -99,7 +99,7 @@ module _ {T : Type 0} {step : T → Line-read → T} where
 
     module _ {g : Got} (i : at < length s) (m : Made step a₀ s at a) (e : g ≡ gotAt at s) where
       -- the line read here, with a′ made of it
-      pub line : {a′ : T} → ((n : ℕ) (h : Held) → a′ ≡ step a (gotRead g s n at h)) → Made step a₀ s (g .next) a′
+      pub line : {a′ : T} → ((n : ℕ) (h : Tables) → a′ ≡ step a (gotRead g s n at h)) → Made step a₀ s (g .next) a′
       line k = record { number = _; held = _; reached = turn i (m .reached) e (omega arith) refl (k _ _) }
 
       pub near : length s - g .next < length s - at
@@ -117,11 +117,11 @@ module _ {T : Type 0} (f : Line-read → Option T) {s : List ℕ} {at : ℕ} whe
   not-found i m = log.not-found f (m .reached) i refl
 
   module _ {g : Got} (i : at < length s) (m : Made (keep f) none s at none) (e : g ≡ gotAt at s) where
-    pub keep-passes : ((n : ℕ) (h : Held) → none ≡ f (gotRead g s n at h)) → Made (keep f) none s (g .next) none
+    pub keep-passes : ((n : ℕ) (h : Tables) → none ≡ f (gotRead g s n at h)) → Made (keep f) none s (g .next) none
     unfolding keep orElse
     keep-passes k = line i m e k
 
-    pub keep-finds : {b : T} → ((n : ℕ) (h : Held) → some b ≡ f (gotRead g s n at h)) →
+    pub keep-finds : {b : T} → ((n : ℕ) (h : Tables) → some b ≡ f (gotRead g s n at h)) →
         some b ≡ firstWith f (readings reader s)
     unfolding keep orElse
     keep-finds k = log.found f (line i m e k .reached) refl

@@ -6,29 +6,48 @@ use Rattle.table.specs.Table.{readTable}
 use Rattle.records.specs.Record.{readLine, readingRes}
 use Rattle.records.specs.declared.Record.{Record}
 use Rattle.log.specs.Log.{Reader, LineRead, Letter}
-use Rattle.held.specs.Held.{noTable, setBy, heldAfter}
-use Rattle.held.specs.declared.Held.{Held}
+use Rattle.held.specs.Held.{setBy, heldAfter}
+use Rattle.held.specs.Tables.{noTables, tablesAfter}
+use Rattle.held.specs.declared.{Held.Held, tables.Tables.Tables}
 use Rattle.walk.specs.Walk.{stepOf}
 use Rattle.walk.specs.declared.{Walk.Walk, Taken.Taken}
 use Rattle.walk.specs.declared.Taken.the-variants.{Line, Done}
 
--- This reader of lines: the answer to a line with its record, and the table that I lines leave.
-abbrev pub reader : Reader (Res Record) Held
-reader = record { read = readLine; after = λ p h s. heldAfter (code "I") h s; start = noTable }
+-- This reader of lines: the answer to a line with its record, and the tables that I lines and J lines leave.
+abbrev pub reader : Reader (Res Record) Tables
+reader = record { read = readLine; after = λ p t s. tablesAfter t s; start = noTables }
 
--- A line that begins with I sets or removes the table, and no other touches it.
-pub i-lines-set : (p : ℕ) (h : Held) (s : List ℕ) →
-    heldAfter (code "I") h s ≡ pick (begins (code "I") s) (setBy (readTable s)) h
-unfolding heldAfter
-i-lines-set p h s = refl
+-- A line that begins with the letter sets or removes the table, and no other touches it.
+abbrev pub SetBy : ℕ → (Tables → Held) → Type 0
+SetBy letter view = (p : ℕ) (t : Tables) (s : List ℕ) →
+    view (tablesAfter t s) ≡ pick (begins letter s) (setBy (readTable s)) (view t)
 
--- The table that I lines set: an accepted one replaces it, a refused one removes it.
+-- So it is with I lines and the one table,
+pub i-lines-set : SetBy (code "I") (λ t. t .i)
+unfolding tablesAfter heldAfter
+i-lines-set p t s = refl
+
+-- and with J lines and the other.
+pub j-lines-set : SetBy (code "J") (λ t. t .j)
+unfolding tablesAfter heldAfter
+j-lines-set p t s = refl
+
+-- A letter with its table: an accepted line replaces it, a refused one removes it.
+abbrev tableLetter : (letter : ℕ) (view : Tables → Held) → SetBy letter view → Letter reader Held
+tableLetter letter view law =
+    record { view = view; begins = begins letter; leaves = λ s. setBy (readTable s); law = law }
+
+-- I lines with their table.
 abbrev pub letterI : Letter reader Held
-letterI = record { view = λ h. h; begins = begins (code "I"); leaves = λ s. setBy (readTable s); law = i-lines-set }
+letterI = tableLetter (code "I") (λ t. t .i) i-lines-set
+
+-- J lines with theirs.
+abbrev pub letterJ : Letter reader Held
+letterJ = tableLetter (code "J") (λ t. t .j) j-lines-set
 
 -- What a walk reads of one line.
 abbrev pub Line-read : Type 0
-Line-read = LineRead (Res Record) Held
+Line-read = LineRead (Res Record) Tables
 
 -- What a step has read, in front of what is read later; nothing where it is done.
 unfoldable pub readBy : List ℕ → Taken → Walk → List Line-read → List Line-read

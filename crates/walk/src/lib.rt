@@ -1,4 +1,4 @@
-// The walk over a log, by value: place, line number, and the table of definitions in force.
+// The walk over a log, by value: place, line number, and the tables of definitions in force.
 pub mod cursor;
 pub mod turn;
 
@@ -11,6 +11,8 @@ use crate::cursor::Next;
 use b_record::BRecord;
 use field::Mnemonic;
 use held::Held;
+use held::tables::Tables;
+use k_record::KRecord;
 use part::Found;
 use part::Part;
 use records::Reading;
@@ -18,7 +20,7 @@ use records::Record;
 use text::line::begins;
 
 pub struct Walk {
-    pub held: Held,
+    pub held: Tables,
     pub at: Cursor,
 }
 
@@ -39,7 +41,7 @@ impl Walk {
     pub fn new() -> Walk
         ensures { λ r. ⌜ r ≡ fresh ⌝ }
     {
-        let held = Held::new();
+        let held = Tables::new();
         let at = Cursor::new();
         Walk { held, at }
     }
@@ -58,9 +60,20 @@ impl Walk {
                 let part = cut.line;
                 let line = part.view(log);
                 let taken = Taken::Line(part, Record::parse_line(line));
-                // What `Held::after` does, with the table copied once.
+                // What `Tables::after` does, with each table copied once.
                 if begins(b'I', line) {
-                    let held = Held::set_by(line);
+                    let i = Held::set_by(line);
+                    let j = self.held.j;
+                    let held = Tables { i, j };
+                    return Step {
+                        walk: Walk { held, at: after },
+                        taken,
+                    };
+                }
+                if begins(b'J', line) {
+                    let i = self.held.i;
+                    let j = Held::set_by(line);
+                    let held = Tables { i, j };
                     return Step {
                         walk: Walk { held, at: after },
                         taken,
@@ -75,21 +88,39 @@ impl Walk {
         }
     }
 
-    // Lookup by name on a B line, with the table in force there: the walk is the one after that line's step.
+    // Lookup by name on a B line, in the I lines' table in force there: the walk is the one after that line's step.
     pub fn find_extension(self, fix: BRecord, name: Mnemonic, line: &[u8]) -> Found
-        ensures { λ r. ⌜ foundRes r ≡ lookUp 35 (fix .rest) (self .held) name (now (line .entry)) ⌝ }
+        ensures { λ r. ⌜ foundRes r ≡ lookUp 35 (fix .rest) (self .held .i) name (now (line .entry)) ⌝ }
     {
-        let held = self.held;
+        let held = self.held.i;
         let rest = fix.rest;
         held.find(BRecord::BASE_LENGTH, rest, name, line)
     }
 
     // The value itself, as a part of the caller's own line.
     pub fn get_extension(self, fix: BRecord, name: Mnemonic, line: &[u8]) -> &[u8]
-        ensures { λ r. ⌜ Shows (line .entry) (shown (lookUp 35 (fix .rest) (self .held) name (now (line .entry)))) r ⌝ }
+        ensures { λ r. ⌜ Shows (line .entry) (shown (lookUp 35 (fix .rest) (self .held .i) name (now (line .entry)))) r ⌝ }
     {
-        let held = self.held;
+        let held = self.held.i;
         let rest = fix.rest;
         held.get(BRecord::BASE_LENGTH, rest, name, line)
+    }
+
+    // Lookup by name on a K line, in the J lines' table in force there.
+    pub fn find_k_extension(self, k: KRecord, name: Mnemonic, line: &[u8]) -> Found
+        ensures { λ r. ⌜ foundRes r ≡ lookUp 7 (k .rest) (self .held .j) name (now (line .entry)) ⌝ }
+    {
+        let held = self.held.j;
+        let rest = k.rest;
+        held.find(KRecord::BASE_LENGTH, rest, name, line)
+    }
+
+    // The value itself, as a part of the caller's own line.
+    pub fn get_k_extension(self, k: KRecord, name: Mnemonic, line: &[u8]) -> &[u8]
+        ensures { λ r. ⌜ Shows (line .entry) (shown (lookUp 7 (k .rest) (self .held .j) name (now (line .entry)))) r ⌝ }
+    {
+        let held = self.held.j;
+        let rest = k.rest;
+        held.get(KRecord::BASE_LENGTH, rest, name, line)
     }
 }

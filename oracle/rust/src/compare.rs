@@ -1,7 +1,7 @@
 //! The two texts of a log held against each other. A difference belongs to a class of docs/DIFFERENCES.md or is unlisted.
 
 use crate::logs::{Job, Part};
-use crate::view::{low, rows, wrapped, How, Lookup, Row, LARGEST_LOG};
+use crate::view::{low, rows, wrapped, How, Lookup, Row};
 use std::collections::BTreeMap;
 
 #[derive(Clone, Copy, PartialEq, Eq, PartialOrd, Ord, Debug)]
@@ -9,20 +9,29 @@ pub enum Class {
     Number,
     LastFixedColumn,
     ExceedsRest,
+    SevenBytes,
     NotUtf8,
     NotTaken,
 }
 
 impl Class {
-    pub const ALL: [Class; 5] = [Class::Number, Class::LastFixedColumn, Class::ExceedsRest, Class::NotUtf8, Class::NotTaken];
+    pub const ALL: [Class; 6] = [
+        Class::Number,
+        Class::LastFixedColumn,
+        Class::ExceedsRest,
+        Class::SevenBytes,
+        Class::NotUtf8,
+        Class::NotTaken,
+    ];
 
     pub fn title(self) -> &'static str {
         match self {
             Class::Number => "an unreadable number: SyntaxError, here 3",
             Class::LastFixedColumn => "an extension from the last fixed column: panics or wraps, here 5",
             Class::ExceedsRest => "a value that exceeds the rest: panics, here 6",
+            Class::SevenBytes => "a K line of seven bytes: SyntaxError, here read",
             Class::NotUtf8 => "a line that is not UTF-8: can't be asked, here read as bytes",
-            Class::NotTaken => "a D, E, F, G, K or L line: read or refused, here 11",
+            Class::NotTaken => "a D, E, F, G or L line: read or refused, here 11",
         }
     }
 }
@@ -34,7 +43,7 @@ type Input = (usize, String);
 pub struct Tally {
     pub logs: u64,
     pub lines: BTreeMap<Part, u64>,
-    /// What this reader answered: lines by their kind, and lookups.
+    /// What this reader answered: lines by their kind, and lookups by that of their line.
     pub answers: BTreeMap<(&'static str, u8), u64>,
     pub panics: u64,
     /// How often, and the smallest input.
@@ -63,12 +72,6 @@ impl Tally {
     /// Compares one log; `ours` is what `fields` wrote for it.
     pub fn compare(&mut self, job: &Job, ours: &[u8]) {
         self.logs += 1;
-        if job.log.len() > LARGEST_LOG {
-            if ours != b"too long\n" {
-                self.unlisted(job, b"(a log that is too long)", b"too long", ours);
-            }
-            return;
-        }
         let rows = rows(&job.log, &job.names);
         let mut texts: Vec<&[u8]> = ours.split(|&b| b == b'\n').collect();
         let end = texts.pop();
@@ -93,6 +96,7 @@ impl Tally {
         let class = match row.how {
             How::Plain => return self.same_but_lookups(row, ours),
             How::Number if ours == row.text() => Class::Number,
+            How::SevenBytes if self.same_but_lookups(row, ours) => Class::SevenBytes,
             How::NotUtf8 if is_by_bytes(row, ours) => Class::NotUtf8,
             How::NotTaken if is_not_taken(row, ours) => Class::NotTaken,
             _ => return false,
@@ -129,8 +133,9 @@ impl Tally {
             Some(answers) => answers,
             None => return false,
         };
+        let of = if kind(row.line) == "K" { "K lookups" } else { "B lookups" };
         for (lookup, answer) in row.lookups.iter().zip(answers) {
-            self.answer("lookups", answer.get(..1));
+            self.answer(of, answer.get(..1));
             if lookup.answer == answer {
                 continue;
             }
@@ -138,10 +143,11 @@ impl Tally {
                 (Some(class), Some(definition)) => (class, definition),
                 _ => return false,
             };
-            let rest = &row.line[35..];
+            let rest = &row.line[lookup.base..];
             let (start, end) = (definition.start_byte, definition.end_byte);
             let size = (rest.len() * 256 + start as usize) * 256 + end as usize;
-            self.count(class, 1, (size, format!("rest \"{}\", {} to {}", rest.escape_ascii(), start, end)));
+            let told = format!("{}, rest \"{}\", {} to {}", kind(row.line), rest.escape_ascii(), start, end);
+            self.count(class, 1, (size, told));
         }
         true
     }
@@ -155,7 +161,8 @@ fn kind(line: &[u8]) -> &'static str {
         Some(b'H') => "H",
         Some(b'I') => "I",
         Some(b'J') => "J",
-        Some(b'D' | b'E' | b'F' | b'G' | b'K' | b'L') => "D to L",
+        Some(b'K') => "K",
+        Some(b'D' | b'E' | b'F' | b'G' | b'L') => "D E F G L",
         _ => "any other",
     }
 }
@@ -187,16 +194,16 @@ fn answers<'o>(row: &Row, ours: &'o [u8]) -> Option<Vec<&'o [u8]>> {
 
 fn class_of(line: &[u8], lookup: &Lookup, ours: &[u8]) -> Option<Class> {
     let definition = lookup.definition.as_ref()?;
-    let (start, end) = (definition.start_byte as usize, definition.end_byte as usize);
+    let (base, start, end) = (lookup.base, definition.start_byte as usize, definition.end_byte as usize);
     if lookup.answer != b"panic" {
         return None;
     }
     let wrapped = wrapped(std::str::from_utf8(line).ok()?, definition);
-    if start == 35 && ours == b"5" && wrapped == "6" {
+    if start == base && ours == b"5" && wrapped == "6" {
         return Some(Class::LastFixedColumn);
     }
     // Columns count from 1: the value starts inside the line and ends behind it.
-    if 35 < start && start <= line.len() && line.len() < end && ours == b"6" && wrapped == "panic" {
+    if base < start && start <= line.len() && line.len() < end && ours == b"6" && wrapped == "panic" {
         return Some(Class::ExceedsRest);
     }
     None

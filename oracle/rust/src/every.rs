@@ -1,8 +1,7 @@
 //! Every case, where all of them can be had.
 
 use crate::lines::*;
-use crate::logs::Logs;
-use crate::view::LARGEST_LOG;
+use crate::logs::{Logs, LOG_SIZE};
 
 pub fn every(logs: &mut Logs) {
     numbers(logs);
@@ -11,7 +10,7 @@ pub fn every(logs: &mut Logs) {
     columns(logs);
     lengths(logs);
     logs.part("three fields of a line, each at each edge");
-    for fields in [FIX, DECLARATION, TURNPOINT, DEFINITIONS] {
+    for fields in [FIX, DECLARATION, TURNPOINT, DATA, I_DEFINITIONS, J_DEFINITIONS] {
         three_edges(fields, &mut |line| logs.line(line));
     }
     parted(logs);
@@ -41,10 +40,15 @@ fn numbers(logs: &mut Logs) {
     let fix = "B1015304712345N01102500EA0000000000";
     let declaration = "C230718092044240718000000";
     let turnpoint = "C0000000N00000000E";
-    let two_bytes: [(&str, &[usize]); 6] = [
+    // With a rest and without one, which is a class by itself.
+    let data = "K101530090";
+    let bare = "K101530";
+    let two_bytes: [(&str, &[usize]); 8] = [
         (fix, &[1, 3, 5, 7]),
         (declaration, &[1, 3, 5, 7, 9, 11, 13, 15, 17]),
         (turnpoint, &[1]),
+        (data, &[1, 3, 5]),
+        (bare, &[1, 3, 5]),
         ("I00", &[1]),
         ("I013638FXA", &[1, 3, 5]),
         ("J013638FXA", &[1, 3, 5]),
@@ -111,21 +115,22 @@ fn columns(logs: &mut Logs) {
     logs.part("every column, every byte");
     for good in GOOD {
         for column in 0..good.len() {
-            logs.line(TABLE);
+            logs.lines(&TABLES);
             for byte in 0..=255 {
                 let mut line = good.as_bytes().to_vec();
                 line[column] = byte;
                 logs.line(&line);
-                // What the table in force is then, a fix shows.
-                if good.starts_with('I') {
-                    logs.line(FIX_OF_TABLE);
+                // What the tables in force are then, a line of each kind that has values shows.
+                if good.starts_with(['I', 'J']) {
+                    logs.lines(&OF_TABLES);
                 }
             }
         }
     }
 }
 
-/// Each line cut at every length and made longer, in a log with others, before CR LF, and as a log's last line with no LF.
+/// Each line cut at every length and made longer, in a log with others, before CR LF, and as a log's last line with no
+/// LF.
 fn lengths(logs: &mut Logs) {
     logs.part("every length");
     let longer: [&[u8]; 9] = [b"0", b"00", b"3638FXA", b":", b"\xc3\xa9", b"\xff", b"\r", b"\r\r", b"\0"];
@@ -133,11 +138,11 @@ fn lengths(logs: &mut Logs) {
         let good = good.as_bytes();
         let cut = (0..=good.len()).map(|len| good[..len].to_vec());
         for line in cut.chain(longer.iter().map(|more| [good, more].concat())) {
-            logs.line(TABLE);
+            logs.lines(&TABLES);
             logs.line(&line);
-            logs.line(FIX_OF_TABLE);
+            logs.lines(&OF_TABLES);
             logs.line(&[&line, &b"\r"[..]].concat());
-            logs.alone([TABLE, b"\n", &line].concat());
+            logs.alone([&TABLES[..], &[&line]].concat().join(&b'\n'));
         }
     }
 }
@@ -167,37 +172,44 @@ fn tables(logs: &mut Logs) {
             logs.line(&[format!("{}+{}", letter, count).as_bytes(), &many[..7 * count]].concat());
         }
     }
-    // The first definition that is bad decides.
-    rows_of(&[b"3638FXA", b"x638FXA", b"36x8FXA", b"3836FXA", b"+9+9   "], 5, &mut |text| {
-        logs.line(&[format!("I{:02}", text.len() / 7).as_bytes(), text].concat());
-        logs.line(FIX_OF_TABLE);
-    });
+    // The first definition that is bad decides. 9 is a fixed column of a B line, and in the rest of a K line.
+    let in_turn: [(&str, [&[u8]; 5]); 2] = [
+        ("I", [b"3638FXA", b"x638FXA", b"36x8FXA", b"3836FXA", b"+9+9   "]),
+        ("J", [b"0810WDI", b"x810WDI", b"08x0WDI", b"1008WDI", b"+9+9   "]),
+    ];
+    for (letter, words) in in_turn {
+        rows_of(&words, 5, &mut |text| {
+            logs.line(&[format!("{}{:02}", letter, text.len() / 7).as_bytes(), text].concat());
+            logs.lines(&OF_TABLES);
+        });
+    }
 }
 
 /// Every definition that a line can hold, on rests of every length around all ends.
 fn lookups(logs: &mut Logs) {
     logs.part("every definition on every length of a rest");
-    for start in 0..100 {
-        let ends: Vec<usize> = (start..100).collect();
-        for ends in ends.chunks(99) {
-            let mut block = format!("I{:02}", ends.len());
-            for end in ends {
-                block += &format!("{:02}{:02}{:03}", start, end, end);
+    for (letter, fixed, longest) in [("I", "B1015304712345N01102500EA0152301561", 70), ("J", "K101530", 98)] {
+        for start in 0..100 {
+            let ends: Vec<usize> = (start..100).collect();
+            for ends in ends.chunks(99) {
+                let mut block = format!("{}{:02}", letter, ends.len());
+                for end in ends {
+                    block += &format!("{:02}{:02}{:03}", start, end, end);
+                }
+                for len in 0..=longest {
+                    block += &format!("\n{}{}", fixed, "7".repeat(len));
+                }
+                logs.together((block + "\n").as_bytes());
             }
-            for len in 0..=70 {
-                block += "\nB1015304712345N01102500EA0152301561";
-                block += &"7".repeat(len);
-            }
-            logs.together((block + "\n").as_bytes());
         }
     }
 }
 
-/// Line ends, and the largest logs and lines.
+/// Line ends, and long logs and lines.
 fn ends(logs: &mut Logs) {
-    logs.part("line ends, largest logs and lines");
+    logs.part("line ends, long logs and lines");
     rows_of(&[b"\n", b"\r", b"I00", b"Z"], 5, &mut |text| logs.alone(text.to_vec()));
-    for size in LARGEST_LOG - 1..=LARGEST_LOG + 1 {
+    for size in LOG_SIZE - 1..=LOG_SIZE + 1 {
         for good in GOOD {
             logs.alone(good.bytes().chain(std::iter::repeat(b'7')).take(size).collect());
             logs.alone(good.bytes().chain([b'\n']).cycle().take(size).collect());

@@ -1,16 +1,30 @@
 //! What no line reaches: fields by themselves, and records built by hand. The Rust alone is asked, so that the rows of
 //! docs/DIFFERENCES.md on them stay true; what this reader does there is proved.
 
+use igc::records::{ARecord, BRecord, CRecordDeclaration, CRecordTurnpoint, HRecord, IRecord, JRecord, KRecord};
 use igc::records::{Extendable, Extension, Record};
 use igc::util::{Compass::*, Date, RawLatitude, RawLongitude, RawPosition, Time};
 use std::fmt::Debug;
 use std::panic::{catch_unwind, UnwindSafe};
+
+/// Good but for their first byte.
+const FIX: &str = "Z1015304712345N01102500EA0152301561";
+const DECLARATION: &str = "Z230718092044000000000204";
+const TURNPOINT: &str = "Z5156040N00038120W";
 
 /// What is asked, what is listed, and what the Rust says.
 type Asked = (&'static str, &'static str, String);
 
 pub fn asked() -> Vec<Asked> {
     vec![
+        ("ARecord::parse of ZCAM123", "panics", said(|| ARecord::parse("ZCAM123"))),
+        ("BRecord::parse of a fix with Z", "\"read\"", said(|| BRecord::parse(FIX).map_or("refused", |_| "read"))),
+        ("CRecordDeclaration::parse of one with Z", "panics", said(|| CRecordDeclaration::parse(DECLARATION))),
+        ("CRecordTurnpoint::parse of one with Z", "panics", said(|| CRecordTurnpoint::parse(TURNPOINT))),
+        ("HRecord::parse of ZFDTE230718", "panics", said(|| HRecord::parse("ZFDTE230718"))),
+        ("IRecord::parse of Z00", "panics", said(|| IRecord::parse("Z00"))),
+        ("JRecord::parse of Z00", "panics", said(|| JRecord::parse("Z00"))),
+        ("KRecord::parse of Z1015300", "panics", said(|| KRecord::parse("Z1015300"))),
         ("Time from 10153", "panics", said(|| "10153".parse::<Time>())),
         ("Date from 23071", "panics", said(|| "23071".parse::<Date>())),
         ("RawLatitude from 4712345", "panics", said(|| "4712345".parse::<RawLatitude>())),

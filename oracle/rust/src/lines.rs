@@ -35,9 +35,9 @@ pub const GOOD: &[&str] = &[
     "é",
 ];
 
-/// A table in force, and a fix that has its values.
-pub const TABLE: &[u8] = b"I033638FXA3940SIU4143ENL";
-pub const FIX_OF_TABLE: &[u8] = b"B1015304712345N01102500EA015230156103504123";
+/// A table in force for each kind of line that has values, and a line of each that has them.
+pub const TABLES: [&[u8]; 2] = [b"I033638FXA3940SIU4143ENL", b"J030810WDI1113WSP1415OAT"];
+pub const OF_TABLES: [&[u8]; 2] = [b"B1015304712345N01102500EA015230156103504123", b"K101530090045-2"];
 
 /// The codes of the 23 makers.
 pub const TRIPLES: &str = "ACTCAMCNIDSXEWAFILFLAFLYGCSIMILGSLXNLXVNAVNTENKLPESPFEPRTSCHSDITRIZAN";
@@ -96,7 +96,10 @@ pub const DECLARATION: Fields = &[
 
 pub const TURNPOINT: Fields = &[&["C"], LATITUDE, THOUSANDTHS, NORTH, LONGITUDE, THOUSANDTHS, EAST, &["", "LBZ", "é"]];
 
-pub const DEFINITIONS: Fields = &[
+pub const DATA: Fields = &[&["K"], HOURS, MINUTES, SECONDS, &["090", "", "0", "é"]];
+
+/// Around the last fixed column of a B line.
+pub const I_DEFINITIONS: Fields = &[
     &["I02", "I01", "I03", "I+2", "I0x", "J02"],
     &["36", "00", "02", "35", "34", "99", "+0", "x6"],
     &["38", "00", "35", "36", "37", "99", "+9", "3x"],
@@ -104,6 +107,17 @@ pub const DEFINITIONS: Fields = &[
     &["39", "00", "02", "35", "37", "99", "+0", "-1"],
     &["40", "00", "35", "39", "38", "99", "+9", "4-"],
     &["SIU", "FXA"],
+];
+
+/// The same around that of a K line.
+pub const J_DEFINITIONS: Fields = &[
+    &["J02", "J01", "J03", "J+2", "J0x", "I02"],
+    &["08", "00", "02", "07", "06", "99", "+0", "x8"],
+    &["10", "00", "07", "08", "09", "99", "+9", "1x"],
+    &["WDI", "wdi", "A B", "=0@"],
+    &["11", "00", "02", "07", "09", "99", "+0", "-1"],
+    &["13", "00", "07", "11", "10", "99", "+9", "1-"],
+    &["WSP", "WDI"],
 ];
 
 /// The line with some fields set to others, the rest good.

@@ -1,6 +1,9 @@
 //! Logs on their way to be compared.
 
-use crate::view::{Name, LARGEST_LOG};
+use crate::view::Name;
+
+/// Lines are packed into logs of at most this size.
+pub const LOG_SIZE: usize = 65536;
 
 /// What a line was made for; parts are listed in their order.
 pub type Part = (usize, &'static str);
@@ -11,7 +14,7 @@ pub struct Job {
     pub log: Vec<u8>,
 }
 
-/// Packs lines into logs that are as large as they may be, and hands those on.
+/// Packs lines into logs, and hands those on.
 pub struct Logs<'s> {
     send: &'s mut dyn FnMut(Job),
     part: Part,
@@ -34,6 +37,12 @@ impl<'s> Logs<'s> {
         self.log.push(b'\n');
     }
 
+    pub fn lines(&mut self, lines: &[&[u8]]) {
+        for line in lines {
+            self.line(line);
+        }
+    }
+
     /// Lines that have to stand in one log.
     pub fn together(&mut self, lines: &[u8]) {
         self.room(lines.len());
@@ -45,7 +54,7 @@ impl<'s> Logs<'s> {
         self.asked(log, Vec::new());
     }
 
-    /// A log by itself, whose fixes are asked for these names.
+    /// A log by itself, whose B and K lines are asked for these names.
     pub fn asked(&mut self, log: Vec<u8>, names: Vec<Name>) {
         (self.send)(Job { part: self.part, names, log });
     }
@@ -58,7 +67,7 @@ impl<'s> Logs<'s> {
     }
 
     fn room(&mut self, len: usize) {
-        if self.log.len() + len > LARGEST_LOG {
+        if self.log.len() + len > LOG_SIZE {
             self.close();
         }
     }

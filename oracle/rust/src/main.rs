@@ -47,7 +47,7 @@ fn main() {
     }
 }
 
-/// What `fields` writes for a log. It reads all before it writes, so the two pipes can't block each other.
+/// What `fields` writes for a log. It writes before it has read all of a long one, so the log is handed on beside.
 fn fields(command: &[&str], job: &Job) -> std::io::Result<Vec<u8>> {
     let mut child = Command::new(command[0])
         .args(&command[1..])
@@ -56,9 +56,12 @@ fn fields(command: &[&str], job: &Job) -> std::io::Result<Vec<u8>> {
         .stdout(Stdio::piped())
         .spawn()?;
     let (stdin, stdout) = (child.stdin.take(), child.stdout.take());
-    stdin.unwrap().write_all(&job.log)?;
     let mut text = Vec::new();
-    stdout.unwrap().read_to_end(&mut text)?;
+    std::thread::scope(|scope| {
+        let written = scope.spawn(|| stdin.unwrap().write_all(&job.log));
+        stdout.unwrap().read_to_end(&mut text)?;
+        written.join().unwrap()
+    })?;
     child.wait()?;
     Ok(text)
 }

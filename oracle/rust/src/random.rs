@@ -1,8 +1,8 @@
 //! Random logs from a seed.
 
 use crate::lines::*;
-use crate::logs::Logs;
-use crate::view::{Name, LARGEST_LOG};
+use crate::logs::{Logs, LOG_SIZE};
+use crate::view::Name;
 
 /// splitmix64: small enough to stand here, so that a seed gives the same logs everywhere.
 pub struct Random(pub u64);
@@ -45,13 +45,19 @@ const ENDS: &[&[&[u8]]] = &[&[b"\n"], &[b"\r\n"], &[b"\n", b"\r\n", b"\r\r\n", b
 /// Where the rules on lengths change.
 const BOUNDS: &[usize] = &[0, 1, 2, 3, 4, 5, 6, 7, 8, 9, 10, 11, 16, 17, 18, 19, 23, 24, 25, 26, 29, 30, 34, 35, 36];
 
-/// Logs of at least so many lines in all; in one of four each fix is asked for some names in place of the table's.
+/// Logs of at least so many lines in all; in one of four each B and K line is asked for some names in place of the
+/// table's.
 pub fn random(logs: &mut Logs, seed: u64, lines: usize) {
     logs.part("random");
     let mut r = Random(seed);
     let mut made = 0;
     while made < lines {
-        let size = if r.once_in(8) { r.below(300) } else { LARGEST_LOG - r.below(200) };
+        let size = match r.below(200) {
+            // More than two of the program's windows of a mebibyte, over which the tables in force are carried on.
+            0 => 40 * LOG_SIZE,
+            1..=25 => r.below(300),
+            _ => LOG_SIZE - r.below(200),
+        };
         let log = log(&mut r, size);
         made += log.iter().filter(|&&b| b == b'\n').count();
         let names = if r.once_in(4) { (0..=r.below(8)).map(|_| name(&mut r)).collect() } else { Vec::new() };
@@ -93,25 +99,27 @@ pub fn log(r: &mut Random, size: usize) -> Vec<u8> {
 
 fn line(r: &mut Random) -> Vec<u8> {
     match r.below(100) {
-        0..=44 => {
-            let len = r.below(68);
-            let rest: Vec<u8> = (0..len).map(|_| r.byte(b' ', b'~')).collect();
-            [fields(r, FIX), rest].concat()
-        }
-        45..=51 => [fields(r, DECLARATION), text(r, 20)].concat(),
-        52..=58 => [fields(r, TURNPOINT), text(r, 20)].concat(),
+        0..=34 => [fields(r, FIX), rest(r, 67)].concat(),
+        35..=46 => [fields(r, DATA), rest(r, 40)].concat(),
+        47..=52 => [fields(r, DECLARATION), text(r, 20)].concat(),
+        53..=58 => [fields(r, TURNPOINT), text(r, 20)].concat(),
         59..=66 => [recorder(r), text(r, 12)].concat(),
-        67..=73 => {
+        67..=72 => {
             let head = format!("H{}{}", *r.of(b"FOPXf") as char, r.of(&["DTE", "PLT", "FTY", "a:b"]));
             [head.into_bytes(), text(r, 30)].concat()
         }
-        74..=82 => table(r, 'I'),
-        83..=85 => table(r, 'J'),
-        86..=92 => r.of(GOOD).as_bytes().to_vec(),
-        93..=95 => [vec![*r.of(b"DEFGKL")], text(r, 40)].concat(),
+        73..=80 => table(r, 'I', 35),
+        81..=86 => table(r, 'J', 7),
+        87..=92 => r.of(GOOD).as_bytes().to_vec(),
+        93..=95 => [vec![*r.of(b"DEFGL")], text(r, 40)].concat(),
         96..=97 => text(r, 40),
         _ => (0..r.below(60)).map(|_| r.byte(0, 255)).collect(),
     }
+}
+
+/// What values are looked up in.
+fn rest(r: &mut Random, most: usize) -> Vec<u8> {
+    (0..r.below(most + 1)).map(|_| r.byte(b' ', b'~')).collect()
 }
 
 /// Digits, letters, marks, and now and then something else.
@@ -160,14 +168,14 @@ fn recorder(r: &mut Random) -> Vec<u8> {
     }
 }
 
-/// Definitions behind each other from column 36 on, with some that lie elsewhere.
-fn table(r: &mut Random, letter: char) -> Vec<u8> {
+/// Definitions behind each other from the first column behind the fixed ones on, with some that lie elsewhere.
+fn table(r: &mut Random, letter: char, base: usize) -> Vec<u8> {
     let count = if r.once_in(30) { r.below(100) } else { r.below(6) };
     let mut line = format!("{}{:02}", letter, count).into_bytes();
-    let mut start = 36;
+    let mut start = base + 1;
     for _ in 0..count {
         if r.once_in(10) {
-            start = if r.once_in(3) { r.below(100) } else { *r.of(&[34, 35, 36]) };
+            start = if r.once_in(3) { r.below(100) } else { *r.of(&[base - 1, base, base + 1]) };
         }
         let end = if r.once_in(100) { r.below(100) } else { (start + r.below(4)).min(99) };
         line.extend(format!("{:02}{:02}", start, end).bytes());
@@ -179,7 +187,7 @@ fn table(r: &mut Random, letter: char) -> Vec<u8> {
 
 /// One damage: a byte or a character set, put in or taken out, the line cut, made longer, or joined with another.
 fn hurt(r: &mut Random, line: &mut Vec<u8>) {
-    let byte = if r.once_in(3) { r.byte(0, 255) } else { *r.of(b"0129+-NSEWAVIX: \r\0\x7f\x80\xff") };
+    let byte = if r.once_in(3) { r.byte(0, 255) } else { *r.of(b"0129+-NSEWAVIJKX: \r\0\x7f\x80\xff") };
     let at = r.below(line.len() + 1);
     match r.below(9) {
         0..=2 if at < line.len() => line[at] = byte,

@@ -1,13 +1,12 @@
 //! What the Rust makes of each line of a log, in the words of `fields`.
 //!
-//! Glue, and not the Rust's: cutting lines, the table in force, lookup by name (the first definition of that name), by the book.
+//! Glue, and not the Rust's: cutting lines, the tables in force, lookup by name (the first definition of that name), by
+//! the book, lookups on an empty rest of a K line.
 
-use igc::records::{BRecord, DataSource, Extendable, Extension, FixValid, Record};
+use igc::records::{DataSource, Extendable, Extension, FixValid, KRecord, Record};
 use igc::util::{Compass, Date, ParseError, RawCoord, RawPosition, Time};
 use std::io::Write;
-use std::panic::catch_unwind;
-
-pub const LARGEST_LOG: usize = 65536;
+use std::panic::{catch_unwind, RefUnwindSafe};
 
 pub type Name = [u8; 3];
 
@@ -17,13 +16,17 @@ pub enum How {
     Plain,
     /// A SyntaxError that came from an unreadable number; the row says 3.
     Number,
-    /// D, E, F, G, K or L; the row says what the Rust did.
+    /// A K line of seven bytes, which the Rust refuses; the row is that of the line with one more, and then without it.
+    SevenBytes,
+    /// D, E, F, G or L; the row says what the Rust did.
     NotTaken,
     /// Not UTF-8; the row is that of the line with `~` in place of each byte from 128 up.
     NotUtf8,
 }
 
 pub struct Lookup<'l> {
+    /// How many columns of the line are fixed.
+    pub base: usize,
     pub name: Name,
     pub definition: Option<Extension<'l>>,
     pub answer: Vec<u8>,
@@ -67,24 +70,36 @@ pub fn lines(log: &[u8]) -> Vec<&[u8]> {
 }
 
 pub fn rows<'l>(log: &'l [u8], names: &[Name]) -> Vec<Row<'l>> {
-    let mut table = None;
-    lines(log).into_iter().zip(1..).map(|(line, number)| row(number, line, &mut table, names)).collect()
+    let mut tables = Tables::default();
+    lines(log).into_iter().zip(1..).map(|(line, number)| row(number, line, &mut tables, names)).collect()
 }
 
 type Table<'l> = Option<Vec<Extension<'l>>>;
 
-fn row<'l>(number: usize, line: &'l [u8], table: &mut Table<'l>, names: &[Name]) -> Row<'l> {
+/// The I lines' table, for B lines, and the J lines', for K lines.
+#[derive(Default)]
+struct Tables<'l> {
+    i: Table<'l>,
+    j: Table<'l>,
+}
+
+fn row<'l>(number: usize, line: &'l [u8], tables: &mut Tables<'l>, names: &[Name]) -> Row<'l> {
     let first = line.first().copied().unwrap_or(0);
     let letter = if first.is_ascii_uppercase() { first } else { b'-' };
     let mut row = Row { line, how: How::Plain, head: Vec::new(), lookups: Vec::new(), tail: Vec::new() };
     write!(row.head, "{} {} ", number, letter as char).unwrap();
-    if first == b'I' {
-        *table = None;
+    match first {
+        b'I' => tables.i = None,
+        b'J' => tables.j = None,
+        _ => {}
     }
     match std::str::from_utf8(line) {
+        Ok(text) if first == b'K' && line.len() == KRecord::BASE_LENGTH => seven(text, &mut row, &tables.j, names),
         Ok(text) => match read(text, &mut row) {
-            Some(Record::B(fix)) => row.lookups = lookups(&fix, text, table, names),
-            Some(Record::I(record)) => *table = Some(record.0.extensions),
+            Some(Record::B(fix)) => row.lookups = lookups(&fix, text, &tables.i, names),
+            Some(Record::K(data)) => row.lookups = lookups(&data, text, &tables.j, names),
+            Some(Record::I(record)) => tables.i = Some(record.0.extensions),
+            Some(Record::J(record)) => tables.j = Some(record.0.extensions),
             _ => {}
         },
         Err(_) => {
@@ -129,8 +144,31 @@ fn fails_ascii(line: &[u8]) -> bool {
         }
         Some(b'H') => len >= 6 && high(0, 5),
         Some(b'I' | b'J') => len >= 3 && high(0, len),
+        // The Rust refuses one of seven bytes before its test; of such it is asked with one more (`seven`).
+        Some(b'K') => len >= 7 && high(0, len),
         _ => false,
     }
+}
+
+/// A K line of seven bytes. The Rust has to refuse it, and in its place is asked for the line with a `0` behind. That
+/// byte is then taken off what it says: the rest is empty, so no value is there, and the text ends before it.
+fn seven<'l>(text: &str, row: &mut Row<'l>, table: &Table<'l>, names: &[Name]) {
+    if Record::parse_line(text).map_or_else(|error| refusal(&error, text), |_| "0") != "1" {
+        row.head.extend(b"glue:seven ");
+    }
+    let longer = format!("{}0", text);
+    if let Some(Record::K(data)) = read(&longer, row) {
+        let (head, tail) = (row.head.strip_suffix(b" 7+1"), row.tail.strip_suffix(b"0"));
+        (row.head, row.tail) = ([head.unwrap(), b" 7+0"].concat(), tail.unwrap().to_vec());
+        row.lookups = lookups(&data, &longer, table, names);
+        for lookup in &mut row.lookups {
+            if let Some(definition) = &lookup.definition {
+                let fixed = definition.start_byte as usize <= lookup.base;
+                lookup.answer = if fixed { b"5".to_vec() } else { b"6".to_vec() };
+            }
+        }
+    }
+    row.how = How::SevenBytes;
 }
 
 /// Asks the Rust for one line: the answer and the fields go to the head, by the book and the printed text to the tail.
@@ -142,7 +180,7 @@ fn read<'t>(text: &'t str, row: &mut Row) -> Option<Record<'t>> {
             return None;
         }
     };
-    if matches!(text.as_bytes().first(), Some(b'D' | b'E' | b'F' | b'G' | b'K' | b'L')) {
+    if matches!(text.as_bytes().first(), Some(b'D' | b'E' | b'F' | b'G' | b'L')) {
         row.how = How::NotTaken;
         row.head.extend(if asked.is_ok() { b"read".as_slice() } else { b"refused" });
         return None;
@@ -228,6 +266,10 @@ fn accepted(line: &str, record: &Record, row: &mut Row) {
         }
         Record::I(i) => definitions(i.0.num_extensions, &i.0.extensions, head),
         Record::J(j) => definitions(j.0.num_extensions, &j.0.extensions, head),
+        Record::K(k) => {
+            book = time_book(&k.time);
+            write!(head, "{} {}", time(&k.time), part(k.extension_string()))
+        }
         _ => write!(head, "glue:kind"),
     }
     .unwrap();
@@ -277,13 +319,16 @@ fn position_book(p: &RawPosition) -> bool {
 }
 
 /// With no names asked for, every name of the table in its order.
-fn lookups<'l>(fix: &BRecord, line: &str, table: &Table<'l>, names: &[Name]) -> Vec<Lookup<'l>> {
+fn lookups<'l, R>(record: &R, line: &str, table: &Table<'l>, names: &[Name]) -> Vec<Lookup<'l>>
+where
+    R: Extendable + RefUnwindSafe,
+{
     let defined = table.as_deref().unwrap_or(&[]);
     let name_of = |d: &Extension| -> Name { d.mnemonic.as_bytes().try_into().unwrap() };
     let look = |name: Name| {
         let definition = defined.iter().find(|d| name_of(d) == name).cloned();
-        let answer = definition.as_ref().map_or(b"8".to_vec(), |d| value(fix, line, d));
-        Lookup { name, definition, answer }
+        let answer = definition.as_ref().map_or(b"8".to_vec(), |d| value(record, line, d));
+        Lookup { base: R::BASE_LENGTH, name, definition, answer }
     };
     if names.is_empty() {
         defined.iter().map(name_of).map(look).collect()
@@ -292,8 +337,8 @@ fn lookups<'l>(fix: &BRecord, line: &str, table: &Table<'l>, names: &[Name]) -> 
     }
 }
 
-fn value(fix: &BRecord, line: &str, definition: &Extension) -> Vec<u8> {
-    match catch_unwind(|| fix.get_extension(definition)) {
+fn value(record: &(impl Extendable + RefUnwindSafe), line: &str, definition: &Extension) -> Vec<u8> {
+    match catch_unwind(|| record.get_extension(definition)) {
         Ok(Ok(value)) => format!("0@{}+{}", value.as_ptr() as usize - line.as_ptr() as usize, value.len()).into_bytes(),
         Ok(Err(error)) => refusal(&error, line).as_bytes().to_vec(),
         Err(_) => b"panic".to_vec(),
@@ -303,16 +348,19 @@ fn value(fix: &BRecord, line: &str, definition: &Extension) -> Vec<u8> {
 /// The same lookup by the build whose arithmetic wraps; only what it refuses by is told.
 pub fn wrapped(line: &str, d: &Extension) -> &'static str {
     use numbers::records::{Extendable, Extension, Record};
-    let fix = match Record::parse_line(line) {
-        Ok(Record::B(fix)) => fix,
-        _ => return "glue:wrapped",
-    };
+    fn told(record: &(impl Extendable + RefUnwindSafe), d: &Extension) -> &'static str {
+        match catch_unwind(|| record.get_extension(d).map(str::len)) {
+            Ok(Ok(_)) => "0",
+            Ok(Err(numbers::util::ParseError::BadExtension)) => "5",
+            Ok(Err(numbers::util::ParseError::MissingExtension)) => "6",
+            Ok(Err(_)) => "glue:wrapped",
+            Err(_) => "panic",
+        }
+    }
     let d = Extension { start_byte: d.start_byte, end_byte: d.end_byte, mnemonic: d.mnemonic };
-    match catch_unwind(|| fix.get_extension(&d).map(str::len)) {
-        Ok(Ok(_)) => "0",
-        Ok(Err(numbers::util::ParseError::BadExtension)) => "5",
-        Ok(Err(numbers::util::ParseError::MissingExtension)) => "6",
-        Ok(Err(_)) => "glue:wrapped",
-        Err(_) => "panic",
+    match Record::parse_line(line) {
+        Ok(Record::B(fix)) => told(&fix, &d),
+        Ok(Record::K(data)) => told(&data, &d),
+        _ => "glue:wrapped",
     }
 }

@@ -1,4 +1,4 @@
-use Rattle.text.specs.Prelude.{_-_, _≡_, true, length, largest}
+use Rattle.text.specs.Prelude.{ℕ, _-_, _≡_, true, List, length, now, largest}
 use Rattle.text.proofs.Prelude.{needs, refl, _∙_}
 use Rattle.products.specs.Feed.{atFirst}
 use Rattle.files.proofs.Filling.{ended-inside}
@@ -24,14 +24,29 @@ turned c =
     (goes-turned (read .read-on .result) (loop .carried) (read .read-on .last .1 .0) (c .one-turn .last .1 .1 .1 .0)
     (c .one-turn .result) (c .one-turn .ensures))
 
+-- the window and the bytes for texts stay as long as they were
+abbrev window : tie.Start Inv-loop μ-loop → List ℕ
+window b = now (b .args .win)
+
+abbrev text : tie.Start Inv-loop μ-loop → List ℕ
+text b = now (b .args .out)
+
+same-window : (c : tie.After-one-turn Inv-loop μ-loop) →
+    length (c .one-turn .last .1 .1 .1 .0) ≡ length (window (search needs))
+same-window c =
+    let read = c .before .before .before .before .before in
+    c .one-turn .kept .1 .1 .1 .0 ∙ read .read-on .kept .1 .0 ∙ read .before .before .before .loop .inv .1
+
+same-text : (c : tie.After-one-turn Inv-loop μ-loop) →
+    length (c .one-turn .last .1 .1 .1 .1 .1 .1 .0) ≡ length (text (search needs))
+same-text c =
+    let read = c .before .before .before .before .before in
+    c .one-turn .kept .1 .1 .1 .1 .1 .1 .0 ∙ read .before .before .before .loop .inv .2
+
 more : tie.Need-loop-again Inv-loop μ-loop
 more c =
     let turn = c .before .before .before .before .before .before .before in
-    let k = turn .one-turn .kept in
-    let read = turn .before .before .before .before .before in
-    let l = read .read-on .kept in
-    let i = read .before .before .before .loop .inv in
-    (goes-more (c .if1 .left) (turned turn), k .1 .1 .1 .0 ∙ l .1 .0 ∙ i .1, k .1 .1 .1 .1 .1 .1 .0 ∙ i .2)
+    (goes-more (c .if1 .left) (turned turn), same-window turn, same-text turn)
 
 pub run-spec : {M : Type 1} → statement M
 run-spec =
@@ -44,7 +59,8 @@ run-spec =
     (search needs) (search needs)
     (λ c κs. let read = c .before .before .before .before in ended-inside (read .read-on .result)
     (read .read-on .ensures))
-    (search needs) (search needs)
+    (λ c. same-window (c .before .before .before .before .before .before .before))
+    (λ c. same-text (c .before .before .before .before .before .before .before))
     (λ c. goes-last-of (turned (c .before .before .before .before .before .before .before)))
     (search needs)
     more

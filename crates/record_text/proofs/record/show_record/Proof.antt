@@ -11,7 +11,7 @@ show-record-spec =
     (tie.spec
     (search needs) (search needs) (search needs) (search needs) (search needs) (search needs) (search needs)
     (search needs) (search needs) (search needs) (search needs) (search needs) (search needs) (search needs)
-    (search needs) (search needs) (search needs)
+    (search needs) (search needs) (search needs) (search needs) (search needs)
     (λ c. rw (c .before .before .before .before .before .rec .given .1) (c .before .before .show-a .ensures))
     (search needs)
     (λ c. rw (c .before .before .before .before .before .rec2 .given .1) (c .before .before .show-b .ensures))
@@ -25,5 +25,7 @@ show-record-spec =
     (λ c. rw (c .before .before .before .before .enum-told .given .1) (c .before .before .show-table .ensures))
     (search needs)
     (λ c. rw (c .before .before .before .before .enum-told2 .given .1) (c .before .before .show-table2 .ensures))
+    (search needs)
+    (λ c. rw (c .before .before .before .before .before .rec6 .given .1) (c .before .before .show-k .ensures))
     (λ c. rw (c .enum-told3 .given .1) (wrote-nothing _ _ (omega arith) (omega arith)))
     (λ c. rw (c .enum-told4 .given .1) (wrote-nothing _ _ (omega arith) (omega arith))))

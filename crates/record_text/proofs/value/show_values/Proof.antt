@@ -10,11 +10,11 @@ use Rattle.record_text.proofs.value.show_values.Tie as tie
 
 -- the values of the first i names are written
 abbrev Inv-loop : tie.InvT-loop
-Inv-loop buf₀ at held rest names line n end₀ i₀ buf end i =
-    (i ≤ n) × Wrote buf₀ at (texts (valueShown held rest line) (take i (askedFor held names))) buf end
+Inv-loop buf₀ at held base rest names line n end₀ i₀ buf end i =
+    (i ≤ n) × Wrote buf₀ at (texts (valueShown base held rest line) (take i (askedFor held names))) buf end
 
 abbrev μ-loop : tie.MeasureT-loop
-μ-loop buf₀ at held rest names line n end₀ i₀ buf end i = n - i
+μ-loop buf₀ at held base rest names line n end₀ i₀ buf end i = n - i
 
 starts : tie.Need-loop-holds Inv-loop μ-loop
 unfolding texts

@@ -9,7 +9,7 @@ by-the-book-spec =
     tie.close
     (tie.spec
     (search needs) (search needs) (search needs) (search needs) (search needs) (search needs) (search needs)
-    (search needs) (search needs) (search needs) (search needs) (search needs)
+    (search needs) (search needs) (search needs) (search needs) (search needs) (search needs) (search needs)
     (λ c. rw (c .enum-told .given .1))
     (λ c. rw (c .before .before .self .given .1) (c .by-the-book .ensures))
     (λ c. rw (c .before .before .self2 .given .1) (c .by-the-book2 .ensures))
@@ -17,5 +17,6 @@ by-the-book-spec =
     (λ c. rw (c .enum-told2 .given .1))
     (λ c. rw (c .enum-told3 .given .1))
     (λ c. rw (c .enum-told4 .given .1))
+    (λ c. rw (c .before .before .self4 .given .1) (c .by-the-book4 .ensures))
     (λ c. rw (c .enum-told5 .given .1))
     (λ c. rw (c .enum-told6 .given .1)))

@@ -2,6 +2,7 @@ use Rattle.text.specs.Prelude.{ℕ, _≡_, List, now, Res, ok, no, pick, _=?_, 
 use Rattle.text.proofs.Prelude.{needs, arith, refl, ap, came, on, off, pass, stop, yes≤, no≤, no=}
 use Rattle.a_record.specs.ARecord.{readA, aRes}
 use Rattle.h_record.specs.HRecord.{readH, hRes}
+use Rattle.k_record.specs.KRecord.{readK, kRes}
 use Rattle.records.specs.declared.Record.{Record}
 use Rattle.records.specs.Record.{isNotTaken, kindOf, readKind, readLine}
 use Rattle.records.specs.Record as kind
@@ -50,6 +51,12 @@ h c = came hRes (c .h .given .1) (c .before .before .parse2 .ensures)
 no-h : (c : tie.After-no-h) → no (c .no-h .given .0 .0) ≡ readH (line (search needs))
 no-h c = came hRes (c .no-h .given .1) (c .before .before .parse2 .ensures)
 
+k : (c : tie.After-k) → ok (c .k .given .0 .0) ≡ readK (line (search needs))
+k c = came kRes (c .k .given .1) (c .before .before .parse3 .ensures)
+
+no-k : (c : tie.After-no-k) → no (c .no-k .given .0 .0) ≡ readK (line (search needs))
+no-k c = came kRes (c .no-k .given .1) (c .before .before .parse3 .ensures)
+
 pub parse-line-spec : {M : Type 1} → statement M
 unfolding readLine kindOf isNotTaken readKind pick _=?_ _∨?_
 parse-line-spec =
@@ -58,7 +65,7 @@ parse-line-spec =
     (λ c. stop _ (no≤ (omega arith)))
     (search needs) (search needs) (search needs) (search needs) (search needs) (search needs) (search needs)
     (search needs) (search needs) (search needs) (search needs) (search needs) (search needs) (search needs)
-    (search needs) (search needs) (search needs) (search needs)
+    (search needs) (search needs) (search needs) (search needs) (search needs) (search needs)
     (λ c. chose (search needs) (ap kindOf (c .before .before .before .before .match .keys1))
     (on _ (a (search needs)) refl))
     (λ c. chose (search needs) (ap kindOf (c .before .before .before .before .match .keys1))
@@ -71,10 +78,13 @@ parse-line-spec =
     (off _ (no-h (search needs))))
     (λ c. chose (search needs) (ap kindOf (c .before .match .keys5)) (c .parse-table .ensures))
     (λ c. chose (search needs) (ap kindOf (c .before .match .keys6)) (c .parse-table2 .ensures))
-    (λ c. chose (search needs) (ap kindOf (c .before .match .keys7)) (rw (c .whole-line .ensures)))
-    (λ c. chose (search needs) (ap kindOf (c .before .match .keys8)) (rw (c .whole-line2 .ensures)))
-    (λ c. chose (search needs) (ap kindOf (c .before .match .keys9)) (rw (c .whole-line3 .ensures)))
-    (λ c. chose (search needs) (ap kindOf (c .before .match .keys10)) (rw (c .whole-line4 .ensures)))
-    (λ c. chose (search needs) (ap kindOf (c .before .match .keys11)) (rw (c .whole-line5 .ensures)))
-    (λ c. chose (search needs) (ap kindOf (c .before .match .keys12)) (rw (c .whole-line6 .ensures)))
-    (λ c. chose (search needs) (other (search needs)) (rw (c .whole-line7 .ensures))))
+    (λ c. chose (search needs) (ap kindOf (c .before .before .before .before .match .keys7))
+    (on _ (k (search needs)) refl))
+    (λ c. chose (search needs) (ap kindOf (c .before .before .before .before .match .keys7))
+    (off _ (no-k (search needs))))
+    (λ c. chose (search needs) (ap kindOf (c .before .match .keys8)) (rw (c .whole-line .ensures)))
+    (λ c. chose (search needs) (ap kindOf (c .before .match .keys9)) (rw (c .whole-line2 .ensures)))
+    (λ c. chose (search needs) (ap kindOf (c .before .match .keys10)) (rw (c .whole-line3 .ensures)))
+    (λ c. chose (search needs) (ap kindOf (c .before .match .keys11)) (rw (c .whole-line4 .ensures)))
+    (λ c. chose (search needs) (ap kindOf (c .before .match .keys12)) (rw (c .whole-line5 .ensures)))
+    (λ c. chose (search needs) (other (search needs)) (rw (c .whole-line6 .ensures))))

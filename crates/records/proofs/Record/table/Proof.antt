@@ -10,7 +10,7 @@ table-spec =
     (tie.spec
     (search needs) (search needs) (search needs) (search needs) (search needs) (search needs) (search needs)
     (search needs) (search needs) (search needs) (search needs) (search needs) (search needs) (search needs)
-    (search needs) (search needs) (search needs) (search needs)
+    (search needs) (search needs) (search needs) (search needs) (search needs) (search needs)
     (λ c. rw (c .before .before .enum-told .given .1, c .before .parse .ensures))
     (λ c. rw (c .before .before .enum-told2 .given .1, c .before .parse2 .ensures))
     (λ c. rw (c .before .enum-told3 .given .1) (c .new .ensures))
@@ -19,4 +19,5 @@ table-spec =
     (λ c. rw (c .before .enum-told6 .given .1) (c .new4 .ensures))
     (λ c. rw (c .before .enum-told7 .given .1) (c .new5 .ensures))
     (λ c. rw (c .before .enum-told8 .given .1) (c .new6 .ensures))
-    (λ c. rw (c .before .enum-told9 .given .1) (c .new7 .ensures)))
+    (λ c. rw (c .before .enum-told9 .given .1) (c .new7 .ensures))
+    (λ c. rw (c .before .enum-told10 .given .1) (c .new8 .ensures)))

@@ -1,5 +1,5 @@
--- A walk of the MIR by hand, after the kit's reader/next: the reader is taken apart, and `table_at` is called on its
--- log, its place and what is held. All that is known of `table_at` is its contract. What held owns is made anew where
+-- A walk of the MIR by hand, after the kit's reader/next: the reader is taken apart, and `tables_at` is called on its
+-- log, its place and what is held. All that is known of `tables_at` is its contract. What held owns is made anew where
 -- it is asked.
 use Rattle.text.specs.Prelude.{_^_, _<_, _≡_, [], _∷_, now}
 use Rattle.text.proofs.Prelude.{refl}
@@ -11,7 +11,8 @@ use base.Logic.{SProp, ent, sep, emp, via, fst∗, snd∗, exE, id⊢}
 use base.Fml.{Lft, Share, ftrue, flft}
 use prog.Memory.{Memory}
 use prog.Routine.{Routine}
-use prog.Wp.{Heap, Calls, Loops, WpFn, Tables}
+use prog.Wp.{Heap, Calls, Loops, WpFn}
+use prog.Wp.{Tables as Known}
 use ghost.Atoms.{Atoms, sem}
 use contract.Monad.{Fun, fact}
 use contract.Running.{givenOf, tables, tablesOf}
@@ -36,25 +37,25 @@ use denote.Triple.Table.{entered, cited}
 use denote.Triple.Walked.{says, Stays, stay-none, walkOf, goes-none, Walks, ends-at, walked, walk-meets}
 use denote.Exit.{yes}
 use denote.Triple.Clauses.{ensured, lasts}
-use Rattle.held.specs.Held.{heldAfter}
-use Rattle.held.specs.declared.Held.{Held}
-use Rattle.held.proofs.Held as U
-use Rattle.held.proofs.Held.Laws as U′
+use Rattle.held.specs.Tables.{tablesAfter}
+use Rattle.held.specs.declared.tables.Tables.{Tables}
+use Rattle.held.proofs.tables.Tables as U
+use Rattle.held.proofs.tables.Tables.Laws as U′
 use Rattle.reader.specs.Reader.{textAt}
 use Rattle.reader.specs.declared.LogReader.{LogReader}
 use Rattle.reader.proofs.Apart.{B, D, L, whole-val, log-val, Own, OwnLog, log-of}
 use Rattle.reader.proofs.LogReader.Laws as T′
-use Rattle.reader.proofs.table_at as callee
-use Rattle.reader.proofs.table_at.Symbol as callee-def
-use Rattle.reader.proofs.table_at.Symbol.{name as #reader·table-at}
-use Rattle.reader.proofs.table_at.Met as callee-thm
-use Rattle.reader.proofs.table.Key.{name as #reader·table}
-use Rattle.reader.proofs.table as tabled
-use Rattle.reader.proofs.table.Statement as stated
-use Rattle.reader.proofs.table.Code as code
+use Rattle.reader.proofs.tables_at as callee
+use Rattle.reader.proofs.tables_at.Symbol as callee-def
+use Rattle.reader.proofs.tables_at.Symbol.{name as #reader·tables-at}
+use Rattle.reader.proofs.tables_at.Met as callee-thm
+use Rattle.reader.proofs.tables.Key.{name as #reader·tables}
+use Rattle.reader.proofs.tables as tabled
+use Rattle.reader.proofs.tables.Statement as stated
+use Rattle.reader.proofs.tables.Code as code
 
--- the (whole-val d)ine value of what is held
-abbrev heldVal : Held → Val
+-- the machine value of what is held
+abbrev heldVal : Tables → Val
 heldVal h = LL.tuple-val U.the-type U′.the-laws (U.the-type .to h)
 
 abbrev stayed : Stays (tabled.ended .signature .params) (tabled.ended .kept)
@@ -62,16 +63,16 @@ stayed = (stay-none B yes, (stay-none (λ _. U.the-row) yes, tt))
 
 module _ {M : Type 1} (𝓤 : URA M) (H : Heap 𝓤) (A : Atoms 𝓤) (mem : Memory → SProp 𝓤) (run : Routine → Fun 𝓤) where
   -- the contract that the proof cites
-  abbrev TableAt : Contract 𝓤
-  TableAt = tripleOf 𝓤 H A callee.signature (callee.spec 𝓤 H A mem run)
+  abbrev TablesAt : Contract 𝓤
+  TablesAt = tripleOf 𝓤 H A callee.signature (callee.spec 𝓤 H A mem run)
 
 module _ {M : Type 1} (𝓤 : URA M) (H : Heap 𝓤) (A : Atoms 𝓤) (W : Given 𝓤 H A) (mem : Memory → SProp 𝓤)
-    (run : Routine → Fun 𝓤) (κ : Lft) (q : Share) (d : LogReader) (h : Held) (g : Is U.the-row h (heldVal h ∷ [])) where
+    (run : Routine → Fun 𝓤) (κ : Lft) (q : Share) (d : LogReader) (h : Tables) (g : Is U.the-row h (heldVal h ∷ [])) where
   abbrev hv : Val
   hv = heldVal h
 
-  abbrev found : Held
-  found = heldAfter 73 h (textAt (d .place) (now (d .log)))
+  abbrev found : Tables
+  found = tablesAfter h (textAt (d .place) (now (d .log)))
 
   abbrev at : Vals tabled.signature (κ, tt)
   at = (whole-val d ∷ [], (hv ∷ [], tt))
@@ -84,18 +85,18 @@ module _ {M : Type 1} (𝓤 : URA M) (H : Heap 𝓤) (A : Atoms 𝓤) (W : Given
   abbrev passed : Vals callee.signature (κ, tt)
   passed = (log-val d ∷ [], (vint w64 (d .place) ∷ [], (hv ∷ [], tt)))
 
-  abbrev to : TableAt 𝓤 H A mem run .Ghost
+  abbrev to : TablesAt 𝓤 H A mem run .Ghost
   to = (((κ, tt), (q, tt), tt, (d .log, (d .place, (h, tt))), passed), tt)
 
   asked : ent 𝓤 (onEntry 𝓤 H A callee.signature (κ, tt) (q, tt) (d .log, (d .place, (h, tt))) passed)
-      (TableAt 𝓤 H A mem run .pre to)
+      (TablesAt 𝓤 H A mem run .pre to)
   asked = qed W ((‵ (flft κ q) ⊛ ‵ ftrue) ∷ ‵
       (owns (ShrSlice (named 0) κ u8 ∷ usize ∷ U.the-row ∷ []) (d .log, (d .place, (h, tt))) passed) ∷ []) ∵ join !
       $ frame ! $ done !
 
   -- what the reader owns gives what the callee asks, and is kept
   apart : d .place < 2 ^ 64 → ent 𝓤 (onEntry 𝓤 H A tabled.signature (κ, tt) (q, tt) (d, (h, tt)) at)
-      (sep 𝓤 (TableAt 𝓤 H A mem run .pre to) (sem 𝓤 H A (Own κ d)))
+      (sep 𝓤 (TablesAt 𝓤 H A mem run .pre to) (sem 𝓤 H A (Own κ d)))
   apart fits =
       qed W ((‵ (flft κ q) ⊛ ‵ ftrue) ∷ ‵ (owns (B (κ, tt) ∷ U.the-row ∷ []) (d, (h, tt)) at) ∷ []) ∵
       move ! (1 ∷ []) $ fsplit ! $ move ! (1 ∷ []) $ drop ! $ use1 W (‵ (OwnLog κ d) ⊛ ‵ (Own κ d)) (log-of 𝓤 H A W κ d)
@@ -104,16 +105,16 @@ module _ {M : Type 1} (𝓤 : URA M) (H : Heap 𝓤) (A : Atoms 𝓤) (W : Given
       nothing ! $ owned ! U.the-row (Is U.the-row) (LL.makes U.the-type U′.the-plain 𝓤 H A) h _ g $ fjoin !
       $ owned ! usize (Is usize) (uint-makes 𝓤 H A W w64) (d .place) _ (refl, fits) $ fjoin ! $ move ! (1 ∷ 0 ∷ [])
       $ fjoin ! $
-      move ! (2 ∷ 0 ∷ []) $ use2 W (raw (TableAt 𝓤 H A mem run .pre to)) asked $ frame ! $ done !
+      move ! (2 ∷ 0 ∷ []) $ use2 W (raw (TablesAt 𝓤 H A mem run .pre to)) asked $ frame ! $ done !
 
   -- of the callee's `ensured`, the clause alone: it has no `&mut`, so what is said of last values is dropped
-  said : (r : Held)
+  said : (r : Tables)
       → ent 𝓤 (ensured 𝓤 H A callee.ended (callee.clauses 𝓤 H A mem run) (κ, tt) (d .log, (d .place, (h, tt))) tt r)
       (fact 𝓤 (r ≡ found))
   said r = exE 𝓤 _ (λ ws. snd∗ 𝓤 (sem 𝓤 H A (lasts callee.ended (κ, tt) (d .log, (d .place, (h, tt))) ws))
       (fact 𝓤 (r ≡ found)))
 
-  exits : (r : Held) (u : Val) → r ≡ found
+  exits : (r : Tables) (u : Val) → r ≡ found
       → ent 𝓤 (⋆ 𝓤 H A (‵ (U.the-row .own r (u ∷ [])) ∷ (‵ (flft κ q) ⊛ ‵ ftrue) ∷ ‵ (Own κ d) ∷ [])) (Post u)
   exits r u e =
       qed W (‵ (U.the-row .own r (u ∷ [])) ∷ (‵ (flft κ q) ⊛ ‵ ftrue) ∷ ‵ (Own κ d) ∷ []) ∵
@@ -123,7 +124,7 @@ module _ {M : Type 1} (𝓤 : URA M) (H : Heap 𝓤) (A : Atoms 𝓤) (W : Given
       h _ g $ fjoin ! $ move ! (2 ∷ 0 ∷ []) $ fjoin ! $ frame ! $ done !
 
   module _ (C : Calls 𝓤 H) (Λ : Loops 𝓤 H) (fm : FmC 𝓤 H (W .laws) C)
-      (known : Triple 𝓤 (C #reader·table-at) (TableAt 𝓤 H A mem run)) where
+      (known : Triple 𝓤 (C #reader·tables-at) (TablesAt 𝓤 H A mem run)) where
     walk : Holds (hasTy (T′.mir (named 0)) (whole-val d)) × WT (whole-val d)
         → ent 𝓤 (onEntry 𝓤 H A tabled.signature (κ, tt) (q, tt) (d, (h, tt)) at)
         (WpFn 𝓤 H C Λ code.function (whole-val d ∷ hv ∷ []) Post)
@@ -138,13 +139,13 @@ module _ {M : Type 1} (𝓤 : URA M) (H : Heap 𝓤) (A : Atoms 𝓤) (W : Given
         (from ! (stop !)) (init ! 2 refl (tt, wt .1 .0)) $
         assigns ! (of-opd ! (load ! (from ! (fld ! refl (stop !))) (look-in ! 6 (sub ! 1 refl (whole !)))))
         (from ! (stop !)) (init ! 0 refl (tt, wt .1 .1 .0)) $
-        move ! (10 ∷ []) $ use1 W (raw (TableAt 𝓤 H A mem run .pre to) ⊛ ‵ (Own κ d)) (apart (wt .1 .1 .0 .fits))
+        move ! (10 ∷ []) $ use1 W (raw (TablesAt 𝓤 H A mem run .pre to) ⊛ ‵ (Own κ d)) (apart (wt .1 .1 .0 .fits))
         $ split ! $
-        calls-at ! fm (TableAt 𝓤 H A mem run) known to
+        calls-at ! fm (TablesAt 𝓤 H A mem run) known to
         (and-then ! (load ! (from ! (stop !)) (look ! 4 refl))
         (and-then ! (load ! (from ! (stop !)) (look ! 2 refl))
         (and-then ! (load ! (from ! (stop !)) (look ! 6 refl)) (no-more !)))) (λ u.
-        use1 W (later (some (λ (r : Held). ((‵ (flft κ q) ⊛ ‵ ftrue) ⊛ ‵ (U.the-row .own r (u ∷ []))) ⊛ raw
+        use1 W (later (some (λ (r : Tables). ((‵ (flft κ q) ⊛ ‵ ftrue) ⊛ ‵ (U.the-row .own r (u ∷ []))) ⊛ raw
         (ensured 𝓤 H A callee.ended (callee.clauses 𝓤 H A mem run) (κ, tt) (d .log, (d .place, (h, tt))) tt r))))
         (id⊢ 𝓤 _) $ await ! tt $ pick ! (λ r.
         split ! $ move ! (1 ∷ []) $ use1 W (raw (fact 𝓤 (r ≡ found))) (said r) $ heard ! (r ≡ found)
@@ -159,30 +160,30 @@ module _ {M : Type 1} (𝓤 : URA M) (H : Heap 𝓤) (A : Atoms 𝓤) (W : Given
 
 module _ {M : Type 1} (𝓤 : URA M) (H : Heap 𝓤) (A : Atoms 𝓤) (W : Given 𝓤 H A) (mem : Memory → SProp 𝓤)
     (run : Routine → Fun 𝓤) where
-  table-walks : (C : Calls 𝓤 H) (Λ : Loops 𝓤 H) → FmC 𝓤 H (W .laws) C → Triple 𝓤 (C #reader·table-at)
-      (TableAt 𝓤 H A mem run)
+  tables-walk : (C : Calls 𝓤 H) (Λ : Loops 𝓤 H) → FmC 𝓤 H (W .laws) C → Triple 𝓤 (C #reader·tables-at)
+      (TablesAt 𝓤 H A mem run)
       → Walks 𝓤 H A tabled.ended stayed (WpFn 𝓤 H C Λ code.function) (tabled.clauses 𝓤 H A mem run)
-  table-walks C Λ fm known = walked 𝓤 H A tabled.ended stayed (tabled.clauses 𝓤 H A mem run)
+  tables-walk C Λ fm known = walked 𝓤 H A tabled.ended stayed (tabled.clauses 𝓤 H A mem run)
       (WpFn 𝓤 H C Λ code.function) (λ κs. (LL.vals (D κs) (L κs), (LL.vals U.the-type U′.the-laws, tt)))
       (λ κs. (LL.tells (D κs) (L κs), (LL.tells U.the-type U′.the-laws, tt)))
       (λ κs qs bounds a g are. via 𝓤 _ (fst∗ 𝓤 _ (emp 𝓤))
       (walk 𝓤 H A W mem run (κs .0) (qs .0) (a .0) (a .1 .0) (are .1 .0) C Λ fm known
       (LL.lawful (D κs) (L κs) 𝓤 H A W .typed (a .0) _ (are .0) .0)))
 
-table-meets : {M : Type 1} (𝓤 : URA M) (H : Heap 𝓤) (A : Atoms 𝓤) (W : Given 𝓤 H A) (mem : Memory → SProp 𝓤)
-    (run : Routine → Fun 𝓤) (𝓣 : Tables 𝓤 H)
-    → Triple 𝓤 (𝓣 .C #reader·table-at) (TableAt 𝓤 H A mem run)
+tables-meet : {M : Type 1} (𝓤 : URA M) (H : Heap 𝓤) (A : Atoms 𝓤) (W : Given 𝓤 H A) (mem : Memory → SProp 𝓤)
+    (run : Routine → Fun 𝓤) (𝓣 : Known 𝓤 H)
+    → Triple 𝓤 (𝓣 .C #reader·tables-at) (TablesAt 𝓤 H A mem run)
     → Meets 𝓤 H A tabled.signature (WpFn 𝓤 H (𝓣 .C) (𝓣 .Λ) code.function) (tabled.spec 𝓤 H A mem run)
-table-meets 𝓤 H A W mem run 𝓣 known-callee = walk-meets 𝓤 H A tabled.ended stayed W
+tables-meet 𝓤 H A W mem run 𝓣 known-callee = walk-meets 𝓤 H A tabled.ended stayed W
     (goes-none 𝓤 H A W 1 B yes (λ κs x f. refl), (goes-none 𝓤 H A W 1 (λ _. U.the-row) yes (λ κs x f. refl), tt))
     (tabled.clauses 𝓤 H A mem run) (WpFn 𝓤 H (𝓣 .C) (𝓣 .Λ) code.function) (WpFn-mono 𝓤 H (W .laws) 𝓣 code.function)
-    (table-walks 𝓤 H A W mem run (𝓣 .C) (𝓣 .Λ) (fmOf 𝓤 H (W .laws) 𝓣) known-callee)
+    (tables-walk 𝓤 H A W mem run (𝓣 .C) (𝓣 .Λ) (fmOf 𝓤 H (W .laws) 𝓣) known-callee)
 
-pub table-spec : {M : Type 1} → stated.statement M
+pub tables-spec : {M : Type 1} → stated.statement M
 unfolding code.routine tablesOf
-table-spec 𝓤 H 𝓜 𝓖 𝓡 =
+tables-spec 𝓤 H 𝓜 𝓖 𝓡 =
     entered 𝓤 H (tripleOf 𝓤 H (𝓖 .A) tabled.signature (tabled.spec 𝓤 H (𝓖 .A) (𝓜 .mem) (𝓡 .run)))
-    (tables 𝓤 H 𝓜 𝓡 code.env .C) (tables 𝓤 H 𝓜 𝓡 code.env .Λ) #reader·table code.function (code.unfolded 𝓤 H 𝓜 𝓡)
-    (table-meets 𝓤 H (𝓖 .A) (givenOf 𝓤 H 𝓜 𝓖) (𝓜 .mem) (𝓡 .run) (tablesOf 𝓤 H 𝓜 (tables 𝓤 H 𝓜 𝓡 code.env))
-    (cited 𝓤 H (TableAt 𝓤 H (𝓖 .A) (𝓜 .mem) (𝓡 .run)) 𝓜 𝓡 code.env #reader·table-at callee-def.routine
-    code.calls-reader·table-at (callee-thm.met 𝓤 H 𝓜 𝓖 𝓡)))
+    (tables 𝓤 H 𝓜 𝓡 code.env .C) (tables 𝓤 H 𝓜 𝓡 code.env .Λ) #reader·tables code.function (code.unfolded 𝓤 H 𝓜 𝓡)
+    (tables-meet 𝓤 H (𝓖 .A) (givenOf 𝓤 H 𝓜 𝓖) (𝓜 .mem) (𝓡 .run) (tablesOf 𝓤 H 𝓜 (tables 𝓤 H 𝓜 𝓡 code.env))
+    (cited 𝓤 H (TablesAt 𝓤 H (𝓖 .A) (𝓜 .mem) (𝓡 .run)) 𝓜 𝓡 code.env #reader·tables-at callee-def.routine
+    code.calls-reader·tables-at (callee-thm.met 𝓤 H 𝓜 𝓖 𝓡)))

@@ -1,0 +1,45 @@
+use Rattle.text.specs.Prelude.{ℕ, _≡_, true, false, List, now, Res, ok, no, cut, columns}
+use Rattle.text.proofs.Prelude.{needs, refl, _∙_, came, on, off, pass, stop, yes≤, no≤, yes=, no=, so-true, so-false}
+use Rattle.field.specs.Field.{isAscii, ascii, asciiIn}
+use Rattle.field.proofs.Fields.{columns-of-ascii}
+use Rattle.datetime.specs.Time.{readTime, timeIn, timeRes}
+use Rattle.k_record.specs.KRecord.{readTimed, readK}
+use Rattle.k_record.specs.declared.KRecord.{KRecord}
+use Rattle.k_record.proofs.KRecord.parse.Statement.{statement}
+use Rattle.k_record.proofs.KRecord.parse.Tie as tie
+
+abbrev line : tie.Start → List ℕ
+line b = now (b .args .line)
+
+plain : (c : tie.Else3) → isAscii (line (search needs)) ≡ true
+plain c = so-true (c .before .is-ascii .ensures) (c .if3 .left)
+
+-- past the tests the line is read by its time and its rest
+in-line : (c : tie.Else3) {x : Res KRecord} → x ≡ readTimed (line (search needs)) → x ≡ readK (line (search needs))
+unfolding readK ascii asciiIn
+in-line c h = pass _ (yes≤ (search needs)) (pass _ (yes= (search needs)) (pass _ (plain c) h))
+
+-- in an ASCII line the field's own test says nothing
+time-read : (c : tie.After-parse-ascii) → timeRes (c .parse-ascii .result) ≡ columns 1 7 readTime (line (search needs))
+unfolding columns cut timeIn readTime
+time-read c = c .parse-ascii .ensures ∙ columns-of-ascii 1 7 6 _ _ (plain (search needs))
+
+time : (c : tie.After-time) → ok (c .time .given .0 .0) ≡ columns 1 7 readTime (line (search needs))
+time c = came timeRes (c .time .given .1) (time-read (search needs))
+
+no-time : (c : tie.After-no-time) → no (c .no-time .given .0 .0) ≡ columns 1 7 readTime (line (search needs))
+no-time c = came timeRes (c .no-time .given .1) (time-read (search needs))
+
+pub parse-spec : {M : Type 1} → statement M
+unfolding readK readTimed ascii asciiIn
+parse-spec =
+    tie.close
+    (tie.spec
+    (λ c. stop _ (no≤ (search needs)))
+    (search needs)
+    (λ c. pass _ (yes≤ (search needs)) (stop _ (no= (search needs))))
+    (search needs)
+    (λ c. pass _ (yes≤ (search needs)) (pass _ (yes= (search needs)) (stop _ (search (so-false)))))
+    (search needs) (search needs) (search needs) (search needs) (search needs) (search needs) (search needs)
+    (λ c. in-line (search needs) (on _ (time (search needs)) (rw (c .from-column .ensures))))
+    (λ c. in-line (search needs) (off _ (no-time (search needs)))))

@@ -1,9 +1,0 @@
-use Rattle.text.proofs.Prelude.{needs}
-use Rattle.reader.proofs.table_at.Statement.{statement}
-use Rattle.reader.proofs.table_at.Tie as tie
-
-held : tie.Need-returns
-held c = rw (c .before .line-at .ensures .bytes) at (c .after .ensures)
-
-pub table-at-spec : {M : Type 1} → statement M
-table-at-spec = tie.close (tie.spec (search needs) (search needs) held)
