@@ -7,7 +7,7 @@ use Rattle.log.specs.Fold.{texts}
 use Rattle.held.specs.declared.tables.Tables.{Tables}
 use Rattle.walk.specs.Readings.{Line-read, reader}
 use Rattle.listing_text.specs.Line.{headText}
-use Rattle.record_text.specs.Piece.{byteShown}
+use Rattle.piece_text.specs.Piece.{byteShown}
 use Rattle.record_text.specs.Record.{recordShown}
 
 -- `y` or `n` for by the book; a line answered 11 or 12 has no verdict.

@@ -16,9 +16,9 @@ use Rattle.k_record.specs.declared.KRecord.{KRecord}
 use Rattle.records.specs.declared.Record.{Record}
 use Rattle.held.specs.declared.{Held.Held, tables.Tables.Tables}
 use Rattle.log.specs.Fold.{texts}
-use Rattle.record_text.specs.Piece.{numberShown, pressureShown, gpsShown, byteShown, partShown, maybeShown}
-use Rattle.record_text.specs.Piece.{timeShown, dateShown, flightShown, positionShown, letterShown, tripleShown}
-use Rattle.record_text.specs.Value.{askedFor, valueShown}
+use Rattle.piece_text.specs.Piece.{numberShown, pressureShown, gpsShown, byteShown, partShown, maybeShown}
+use Rattle.piece_text.specs.Piece.{timeShown, dateShown, flightShown, positionShown, letterShown, tripleShown}
+use Rattle.piece_text.specs.Value.{askedFor, valueShown}
 
 -- The letter code and the triple code as the maker gives them, unique id, id extension.
 unfoldable pub aShown : ARecord → List ℕ

@@ -2,7 +2,7 @@ use Rattle.text.specs.Prelude.{_≡_, true, [], _=?_}
 use Rattle.text.proofs.Prelude.{needs, arith, refl, sym, _∙_, first, second, yes=, no=}
 use Rattle.put.proofs.Writing.{wrote-nothing}
 use Rattle.records.specs.Record.{acceptedAs}
-use Rattle.record_text.specs.Piece.{byteShown}
+use Rattle.piece_text.specs.Piece.{byteShown}
 use Rattle.fields_text.specs.Line.{bookShown}
 use Rattle.fields_text.proofs.line.put_book.Statement.{statement}
 use Rattle.fields_text.proofs.line.put_book.Tie as tie

@@ -5,9 +5,9 @@ use Rattle.put.proofs.Writing.{wrote-length, wrote-nothing}
 use Rattle.log.specs.Fold.{texts}
 use Rattle.table.specs.Table.{defsOf}
 use Rattle.table.proofs.Defs.{long-under}
+use Rattle.piece_text.proofs.Rows.{in-turn}
+use Rattle.piece_text.proofs.Names.{count-defs, definition-at}
 use Rattle.record_text.specs.Record.{definitionShown}
-use Rattle.record_text.proofs.Rows.{in-turn}
-use Rattle.record_text.proofs.Names.{count-defs, definition-at}
 use Rattle.record_text.proofs.record.show_definitions.Statement.{statement}
 use Rattle.record_text.proofs.record.show_definitions.Tie as tie
 

@@ -1,6 +1,6 @@
 use Rattle.text.proofs.Prelude.{needs}
 use Rattle.put.proofs.Writing.{then}
-use Rattle.record_text.specs.Piece.{pressureShown, gpsShown}
+use Rattle.piece_text.specs.Piece.{pressureShown, gpsShown}
 use Rattle.record_text.specs.Record.{fixShown}
 use Rattle.record_text.proofs.record.show_fix.Statement.{statement}
 use Rattle.record_text.proofs.record.show_fix.Tie as tie

@@ -1,8 +1,0 @@
-use Rattle.text.proofs.Prelude.{needs}
-use Rattle.record_text.specs.Piece.{dateShown}
-use Rattle.record_text.proofs.piece.show_date.Statement.{statement}
-use Rattle.record_text.proofs.piece.show_date.Tie as tie
-
-pub show-date-spec : {M : Type 1} → statement M
-unfolding dateShown
-show-date-spec = tie.close (tie.spec (search needs) (search needs) (λ c. c .before .before .show-three .ensures))

@@ -1,9 +1,0 @@
-use Rattle.text.proofs.Prelude.{needs}
-use Rattle.put.proofs.Writing.{then}
-use Rattle.record_text.specs.Piece.{numberShown}
-use Rattle.record_text.proofs.piece.show_number.Statement.{statement}
-use Rattle.record_text.proofs.piece.show_number.Tie as tie
-
-pub show-number-spec : {M : Type 1} → statement M
-unfolding numberShown
-show-number-spec = tie.close (tie.spec (search needs) (search needs) (search needs) (λ c. search (then)))
