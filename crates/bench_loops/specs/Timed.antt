@@ -5,9 +5,10 @@ use Rattle.field.specs.declared.Mnemonic.{Mnemonic}
 use Rattle.print.specs.Print.{answerTo, leftBy}
 use Rattle.datetime.specs.Time.{secondsOf}
 use Rattle.b_record.specs.declared.BRecord.{BRecord}
-use Rattle.records.specs.Record.{answerPrinted, recordFix, answerFix}
+use Rattle.records.specs.Record.{recordFix, answerFix}
 use Rattle.records.specs.declared.{Record.Record, MaybeFix.MaybeFix}
 use Rattle.records.specs.declared.MaybeFix.the-variants.{Missing, Fix}
+use Rattle.record_print.specs.Printed.{answerPrinted}
 use Rattle.held.specs.Held.{lookUp}
 use Rattle.held.specs.declared.Held.{Held}
 use Rattle.log.specs.Log.{readings}

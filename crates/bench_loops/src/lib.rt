@@ -1,7 +1,8 @@
 // What bench/ times: whole logs through the public reader. Each answer is a figure over all that a fresh walk reads, so
 // that no reading can be left out.
 ghost use mathlib.Core.Path.{_≡_};
-ghost use Rattle.records.specs.Record.{readingRes, answerPrinted};
+ghost use Rattle.records.specs.Record.{readingRes};
+ghost use Rattle.record_print.specs.Printed.{answerPrinted};
 ghost use Rattle.bench_loops.specs.Timed.{above as Timed·above, ofFix, ofAnswer, ofValue, ofNamed, PrintedLine};
 ghost use Rattle.bench_loops.specs.Timed.{readSum, lookUpSum, printedOut};
 use b_record::BRecord;
@@ -9,6 +10,7 @@ use field::Mnemonic;
 use held::Held;
 use held::tables::Tables;
 use print::printed::Printed;
+use record_print::print_record;
 use records::MaybeFix;
 use records::Reading;
 use records::Record;
@@ -129,7 +131,7 @@ fn print_line(reading: Reading, line: &[u8], buf: &mut [u8]) -> u64
 {
     match reading {
         Reading::Refused(_) => 0,
-        Reading::Accepted(seen) => match seen.print(seen.table(line), line, buf) {
+        Reading::Accepted(seen) => match print_record(seen, seen.table(line), line, buf) {
             Printed::Written(n) => n as u64,
             Printed::Refused(_) => 0,
         },

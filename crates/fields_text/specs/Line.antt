@@ -1,7 +1,8 @@
 -- A line of the program `fields`, and the whole text.
 use Rattle.text.specs.Prelude.{ℕ, code, List, [], _∷_, _++_, Res, ok, no, pick, _=?_, LF}
-use Rattle.records.specs.Record.{recordTable, recordPiece, recordBook, acceptedAs}
+use Rattle.records.specs.Record.{recordTable, recordBook, acceptedAs}
 use Rattle.records.specs.declared.Record.{Record}
+use Rattle.record_print.specs.Printed.{recordPiece}
 use Rattle.log.specs.Log.{readings}
 use Rattle.log.specs.Fold.{texts}
 use Rattle.held.specs.declared.tables.Tables.{Tables}

@@ -1,11 +1,13 @@
 // A whole line of the program's text.
 ghost use Rattle.put.specs.Put.{Wrote};
-ghost use Rattle.records.specs.Record.{readingRes, recordPiece};
+ghost use Rattle.records.specs.Record.{readingRes};
+ghost use Rattle.record_print.specs.Printed.{recordPiece};
 ghost use Rattle.fields_text.specs.Line.{bookShown, printedShown, seen, fieldsShown, fieldsLine};
 use held::tables::Tables;
 use listing_text::put_head;
 use piece_text::piece::show_byte;
 use put::put_byte;
+use record_print::put_record;
 use record_text::record::show_record;
 use records::Reading;
 use records::Record;
@@ -31,7 +33,7 @@ fn put_printed(buf: &mut [u8], at: usize, rec: Record, table: Table, line: &[u8]
 {
     let at_sign = put_byte(buf, at, b' ');
     let at_text = put_byte(buf, at_sign, b'=');
-    rec.put_piece(buf, at_text, table, line)
+    put_record(buf, at_text, rec, table, line)
 }
 
 // What is seen of an accepted line.

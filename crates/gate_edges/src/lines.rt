@@ -7,6 +7,7 @@ use gate_say as say;
 use k_record::KRead;
 use k_record::KRecord;
 use part::Found;
+use record_print::print_record;
 use records::Reading;
 use records::Record;
 use table::Table;
@@ -15,7 +16,7 @@ fn answer(record: Record, table: Table, text: &[u8]) {
     io::print_decimal(1, record.number() as u64);
     io::write_all(1, b" ");
     let mut buf = [b'.'; 48];
-    let p = record.print(table, text, &mut buf);
+    let p = print_record(record, table, text, &mut buf);
     say::printed(p, &buf);
 }
 

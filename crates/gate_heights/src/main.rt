@@ -6,6 +6,7 @@ use fields_text::line::put_line;
 use held::tables::Tables;
 use listing_text::listing::print_listing;
 use print::printed::Printed;
+use record_print::print_record;
 use records::Reading;
 use records::Record;
 
@@ -67,13 +68,13 @@ fn fields(line: &[u8]) {
     say(&text, n);
 }
 
-// What `Record::print` writes. The line has a sign that a printed line has not, so its own bytes do not pass for that.
+// What `print_record` writes. The line has a sign that a printed line has not, so its own bytes do not pass for that.
 fn printed(line: &[u8]) {
     let mut text = [0u8; 64];
     io::write_all(1, b"printed: ");
     match Record::parse_line(line) {
         Reading::Accepted(record) => {
-            let answer = record.print(record.table(line), line, &mut text);
+            let answer = print_record(record, record.table(line), line, &mut text);
             say_printed(answer, &text);
         }
         Reading::Refused(_) => {

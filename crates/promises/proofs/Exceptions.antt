@@ -20,7 +20,8 @@ use Rattle.c_record.specs.CRecord.{turns, readFlight, readTask, readDeclaration
 use Rattle.c_record.specs.CRecord.{declarationText}
 use Rattle.c_turnpoint_record.specs.CTurnpoint.{readTurnpoint, turnpointBody, turnpointText}
 use Rattle.k_record.specs.KRecord.{readTimed, readK, kBody, kText}
-use Rattle.records.specs.Record.{kindOf, readC, readKind, readLine, recordText, recordTable, answerPrinted, reprinted}
+use Rattle.records.specs.Record.{kindOf, readC, readKind, readLine, recordTable}
+use Rattle.record_print.specs.Printed.{recordText, answerPrinted, reprinted}
 use Rattle.promises.specs.Spelt.{speltFrom, spelt}
 use Rattle.promises.specs.Back.{Needed}
 

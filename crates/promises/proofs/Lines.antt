@@ -8,7 +8,8 @@ use Rattle.print.specs.Print.{answerTo, leftBy}
 use Rattle.table.specs.Table.{readTable, tableRead, tableText}
 use Rattle.table.specs.declared.Table.{Table}
 use Rattle.c_record.specs.CRecord.{turns}
-use Rattle.records.specs.Record.{isNotTaken, kindOf, whole, readC, readKind, readLine, recordText}
+use Rattle.records.specs.Record.{isNotTaken, kindOf, whole, readC, readKind, readLine}
+use Rattle.record_print.specs.Printed.{recordText}
 use Rattle.log.proofs.Ends.{by-test}
 use Rattle.promises.specs.Odd.{declarationOdd, turnpointOdd, tableOdd, lineOdd}
 use Rattle.promises.specs.Back.{Back, Reprints, ComesBack}

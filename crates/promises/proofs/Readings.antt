@@ -17,8 +17,8 @@ use Rattle.a_record.specs.ARecord.{aNew, aOf, letterForm, longForm, readTriple,
 use Rattle.c_record.specs.CRecord.{turns, readFlight, readTask, readDeclaration, flightText, taskText, declarationBody}
 use Rattle.c_record.specs.CRecord.{declarationText}
 use Rattle.h_record.specs.HRecord.{sourceByte, sourceOf, colonIn, named, readH}
-use Rattle.records.specs.Record.{isNotTaken, kindOf, whole, readC, readKind, readLine, recordText, recordTable}
-use Rattle.records.specs.Record.{answerPrinted, reprinted}
+use Rattle.records.specs.Record.{isNotTaken, kindOf, whole, readC, readKind, readLine, recordTable}
+use Rattle.record_print.specs.Printed.{recordText, answerPrinted, reprinted}
 use Rattle.promises.specs.Spelt.{speltFrom, spelt}
 use Rattle.promises.specs.Starred.{Starred}
 

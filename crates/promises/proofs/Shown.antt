@@ -13,8 +13,9 @@ use Rattle.c_record.specs.CRecord.{declarationText}
 use Rattle.c_turnpoint_record.specs.CTurnpoint.{turnpointText}
 use Rattle.h_record.specs.HRecord.{hText}
 use Rattle.k_record.specs.KRecord.{kText}
-use Rattle.records.specs.Record.{readLine, recordText, recordPiece, recordTable, answerPrinted, reprinted}
+use Rattle.records.specs.Record.{readLine, recordTable}
 use Rattle.records.specs.declared.Record.{Record}
+use Rattle.record_print.specs.Printed.{recordText, recordPiece, answerPrinted, reprinted}
 use Rattle.log.specs.Line.{lineText}
 use Rattle.log.specs.Log.{chunks, readFrom, readings}
 use Rattle.log.specs.Fold.{texts}

@@ -6,8 +6,9 @@ use Rattle.print.specs.Print.{printedRes, Prints}
 use Rattle.print.specs.declared.printed.Printed.{Printed}
 use Rattle.table.specs.Table.{readTable, tableRead}
 use Rattle.table.specs.declared.TableRead.{TableRead}
-use Rattle.records.specs.Record.{readLine, recordText, reprinted, readingRes}
+use Rattle.records.specs.Record.{readLine, readingRes}
 use Rattle.records.specs.declared.{Record.Record, Reading.the-variants.Accepted}
+use Rattle.record_print.specs.Printed.{recordText, reprinted}
 use Rattle.promises.specs.Odd.{lineOdd}
 use Rattle.promises.specs.Spelt.{spelt}
 
@@ -36,7 +37,7 @@ pub record Reprints (s : List ℕ) (m : Res (List ℕ)) : Type 0 where
   -- H lines always come back.
   pub headers : byte 0 s ≡ code "H" → Back s m
 
--- `Record::print` prints `recordText` of the record, its table and its line.
+-- `print_record` prints `recordText` of the record, its table and its line.
 abbrev pub ComesBack : Type 0
 ComesBack = (s : List ℕ) (r : Record) (t : TableRead) → Parsed s r t → Reprints s (recordText r (t .table) s)
 

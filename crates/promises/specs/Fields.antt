@@ -1,7 +1,8 @@
--- What the program `fields` shows as printed is what `Record::print` prints.
+-- What the program `fields` shows as printed is what `print_record` prints.
 use Rattle.text.specs.Prelude.{ℕ, _≡_, List, [], _∷_, _++_, Res, ok, no, LF}
-use Rattle.records.specs.Record.{readLine, recordTable, recordPiece, reprinted}
+use Rattle.records.specs.Record.{readLine, recordTable}
 use Rattle.records.specs.declared.Record.{Record}
+use Rattle.record_print.specs.Printed.{recordPiece, reprinted}
 use Rattle.log.specs.Log.{readings}
 use Rattle.log.specs.Fold.{texts}
 use Rattle.held.specs.declared.tables.Tables.{Tables}
@@ -25,7 +26,7 @@ lineAs names x =
 
 -- What `fields` shows of a log is what its records print.
 pub record Shown : Type 0 where
-  -- The piece of an accepted line's record is its text, as `Record::print` writes it.
+  -- The piece of an accepted line's record is its text, as `print_record` writes it.
   pub piece : (s : List ℕ) (r : Record) → readLine s ≡ ok r → reprinted s ≡ ok (recordPiece r (recordTable r s) s)
   -- For every log and every list of names.
   pub fields : (names log : List ℕ) → fieldsText names log ≡ texts (lineAs names) (readings reader log)

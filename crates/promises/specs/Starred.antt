@@ -11,8 +11,9 @@ use Rattle.extension.specs.Value.{findValue}
 use Rattle.c_record.specs.CRecord.{readDeclaration}
 use Rattle.c_record.specs.declared.MaybeDate.the-variants.{Missing, On}
 use Rattle.h_record.specs.declared.DataSource.the-variants.{FVU}
-use Rattle.records.specs.Record.{readLine, reprinted}
+use Rattle.records.specs.Record.{readLine}
 use Rattle.records.specs.declared.Record.{Record}
+use Rattle.record_print.specs.Printed.{reprinted}
 use Rattle.promises.specs.Spelt.{spelt}
 
 -- Each of them.

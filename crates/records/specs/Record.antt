@@ -1,17 +1,16 @@
 -- Lines of every kind: an empty line is 1, then the first byte chooses.
 use Rattle.text.specs.Prelude.{ℕ, code, Bool, true, List, [], length, Res, ok, no, bind, guard, pick, numberOf, _≤?_}
 use Rattle.text.specs.Prelude.{_=?_, _∨?_, byte}
-use Rattle.part.specs.Part.{partText, partBytes}
 use Rattle.text.specs.declared.refusal.Refusal.the-variants.{Syntax}
 use Rattle.part.specs.declared.Part.{Part}
-use Rattle.table.specs.Table.{tableOf, readTable, tableBody, tableText, tableRead}
+use Rattle.table.specs.Table.{tableOf, readTable, tableRead}
 use Rattle.table.specs.declared.Table.{Table}
-use Rattle.a_record.specs.ARecord.{readA, aPiece, aText}
-use Rattle.b_record.specs.BRecord.{readB, bPiece, bText, bBook}
-use Rattle.c_record.specs.CRecord.{turns, readDeclaration, declarationPiece, declarationText, declarationBook}
-use Rattle.c_turnpoint_record.specs.CTurnpoint.{readTurnpoint, turnpointPiece, turnpointText, turnpointBook}
-use Rattle.h_record.specs.HRecord.{readH, hPiece, hText}
-use Rattle.k_record.specs.KRecord.{readK, kPiece, kText, kBook}
+use Rattle.a_record.specs.ARecord.{readA}
+use Rattle.b_record.specs.BRecord.{readB, bBook}
+use Rattle.c_record.specs.CRecord.{turns, readDeclaration, declarationBook}
+use Rattle.c_turnpoint_record.specs.CTurnpoint.{readTurnpoint, turnpointBook}
+use Rattle.h_record.specs.HRecord.{readH}
+use Rattle.k_record.specs.KRecord.{readK, kBook}
 use Rattle.records.specs.declared.{Record.Record, MaybeFix.MaybeFix, Reading.Reading}
 
 -- D, E, F, G and L are not taken.
@@ -71,33 +70,6 @@ readKind Other s = ok (Record.Unrecognised (whole s))
 unfoldable pub readLine : List ℕ → Res Record
 readLine s = guard (1 ≤? length s) Syntax (readKind (kindOf (byte 0 s)) s)
 
--- The text of a record beside its table and its line; 11 and 12 print as the line itself.
-unfoldable pub recordText : Record → Table → List ℕ → Res (List ℕ)
-recordText (Record.A r) t s = aText r s
-recordText (Record.B r) t s = bText r s
-recordText (Record.CDeclaration r) t s = declarationText r s
-recordText (Record.CTurnpoint r) t s = turnpointText r s
-recordText (Record.H r) t s = hText r s
-recordText Record.I t s = tableText (code "I") t
-recordText Record.J t s = tableText (code "J") t
-recordText (Record.K r) t s = kText r s
-recordText (Record.NotTaken p) t s = partText p s
-recordText (Record.Unrecognised p) t s = partText p s
-
--- The same as a piece of a larger text: a part that lies outside the line is left out. For a record as it was read that
--- is its text (promises, `Shown`).
-unfoldable pub recordPiece : Record → Table → List ℕ → List ℕ
-recordPiece (Record.A r) t s = aPiece r s
-recordPiece (Record.B r) t s = bPiece r s
-recordPiece (Record.CDeclaration r) t s = declarationPiece r s
-recordPiece (Record.CTurnpoint r) t s = turnpointPiece r s
-recordPiece (Record.H r) t s = hPiece r s
-recordPiece Record.I t s = tableBody (code "I") t
-recordPiece Record.J t s = tableBody (code "J") t
-recordPiece (Record.K r) t s = kPiece r s
-recordPiece (Record.NotTaken p) t s = partBytes p s
-recordPiece (Record.Unrecognised p) t s = partBytes p s
-
 -- The table of an I or a J line itself; a record of another kind has an empty one, at which nobody looks.
 unfoldable pub recordTable : Record → List ℕ → Table
 recordTable Record.I s = tableRead (readTable s) .table
@@ -110,14 +82,6 @@ recordTable (Record.H r) s = tableOf []
 recordTable (Record.K r) s = tableOf []
 recordTable (Record.NotTaken p) s = tableOf []
 recordTable (Record.Unrecognised p) s = tableOf []
-
--- The text of the record that a line s was answered with, its own table beside it.
-unfoldable pub answerPrinted : Res Record → List ℕ → Res (List ℕ)
-answerPrinted m s = bind m (λ r. recordText r (recordTable r s) s)
-
--- A line read and printed.
-unfoldable pub reprinted : List ℕ → Res (List ℕ)
-reprinted s = answerPrinted (readLine s) s
 
 -- Whether a record is a fix, and which.
 unfoldable pub recordFix : Record → MaybeFix

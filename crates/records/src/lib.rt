@@ -1,11 +1,9 @@
 // Lines of every kind, as src/records/mod.rs has them.
 ghost use mathlib.Core.Path.{_≡_};
 ghost use Rattle.text.specs.Res.{bind, ok};
-ghost use Rattle.put.specs.Put.{Wrote};
-ghost use Rattle.print.specs.Print.{Prints};
 ghost use Rattle.table.specs.Table.{readTable};
 ghost use Rattle.b_record.specs.BRecord.{readB};
-ghost use Rattle.records.specs.Record.{whole, readC, readLine, recordText, recordPiece, recordTable, recordBook};
+ghost use Rattle.records.specs.Record.{whole, readC, readLine, recordTable, recordBook};
 ghost use Rattle.records.specs.Record.{recordFix, acceptedAs, answerOf, answerFix, readingRes};
 use a_record::ARead;
 use a_record::ARecord;
@@ -23,9 +21,6 @@ use h_record::HRecord;
 use k_record::KRead;
 use k_record::KRecord;
 use part::Part;
-use print::printed::Printed;
-use print::printed::print_part;
-use put::put_part;
 use table::Table;
 use table::Verdict;
 use text::refusal::Refusal;
@@ -137,44 +132,6 @@ impl Record {
             b'G' => Reading::Accepted(Record::NotTaken(whole_line(line))),
             b'L' => Reading::Accepted(Record::NotTaken(whole_line(line))),
             _ => Reading::Accepted(Record::Unrecognised(whole_line(line))),
-        }
-    }
-
-    // The table is that of an I or a J line; other kinds do not look at it.
-    pub fn print(self, table: Table, line: &[u8], buf: &mut [u8]) -> Printed
-        ensures { λ r. ⌜ Prints (recordText self table (now (line .entry))) (now (buf .entry)) (now (buf .exit)) r ⌝ }
-    {
-        match self {
-            Record::A(a) => a.print(line, buf),
-            Record::B(b) => b.print(line, buf),
-            Record::CDeclaration(task) => task.print(line, buf),
-            Record::CTurnpoint(point) => point.print(line, buf),
-            Record::H(h) => h.print(line, buf),
-            Record::I => table.print(b'I', buf),
-            Record::J => table.print(b'J', buf),
-            Record::K(k) => k.print(line, buf),
-            Record::NotTaken(part) => print_part(part, line, buf),
-            Record::Unrecognised(other) => print_part(other, line, buf),
-        }
-    }
-
-    // Its text as a piece of a larger one, from a place on: bytes that are too short cut it, and a part outside the
-    // line is left out. `print` is the printer.
-    pub fn put_piece(self, buf: &mut [u8], at: usize, table: Table, line: &[u8]) -> usize
-        ensures { λ r. ⌜ Wrote (now (buf .entry)) at (recordPiece self table (now (line .entry)))
-            (now (buf .exit)) r ⌝ }
-    {
-        match self {
-            Record::A(a) => a.put_piece(buf, at, line),
-            Record::B(b) => b.put_piece(buf, at, line),
-            Record::CDeclaration(task) => task.put_piece(buf, at, line),
-            Record::CTurnpoint(point) => point.put_piece(buf, at, line),
-            Record::H(h) => h.put_piece(buf, at, line),
-            Record::I => table.put_piece(buf, at, b'I'),
-            Record::J => table.put_piece(buf, at, b'J'),
-            Record::K(k) => k.put_piece(buf, at, line),
-            Record::NotTaken(part) => put_part(buf, at, line, part),
-            Record::Unrecognised(other) => put_part(buf, at, line, other),
         }
     }
 

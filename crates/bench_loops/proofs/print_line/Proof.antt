@@ -1,7 +1,8 @@
 use Rattle.text.specs.Prelude.{_≡_, now, bind}
 use Rattle.text.proofs.Prelude.{needs, refl, ap, came}
 use Rattle.print.specs.Print.{answerTo, leftBy, printedRes}
-use Rattle.records.specs.Record.{recordText, readingRes, answerPrinted}
+use Rattle.records.specs.Record.{readingRes}
+use Rattle.record_print.specs.Printed.{recordText, answerPrinted}
 use Rattle.bench_loops.specs.Timed.{writtenLength}
 use Rattle.bench_loops.proofs.print_line.Statement.{statement}
 use Rattle.bench_loops.proofs.print_line.Tie as tie
@@ -23,14 +24,14 @@ unfolding writtenLength
 written-out c =
     let n = c .before in
     let print = n .before .before .before .before in
-    let p = rw (text (print .before .before)) at (print .print .ensures) in
+    let p = rw (text (print .before .before)) at (print .print-record .ensures) in
     record { answer = ap writtenLength (came printedRes (n .n .given .1) (p .answer)); left = p .left }
 
 refused : tie.Need-returns-3
 unfolding writtenLength
 refused c =
     let print = c .before .before .before .before in
-    let p = rw (text (print .before .before)) at (print .print .ensures) in
+    let p = rw (text (print .before .before)) at (print .print-record .ensures) in
     record { answer = ap writtenLength (came printedRes (c .enum-told2 .given .1) (p .answer)); left = p .left }
 
 pub print-line-spec : {M : Type 1} → statement M
