@@ -83,7 +83,8 @@ module _ {p : Product} {names : List ℕ} {c : Carried} {s b₀ : List ℕ} wher
         ready = e;
       }
 
-  module _ {b : List ℕ} {h : Tables} {n : ℕ} {t : Trailer} {at end : ℕ} (f : Feeding p names c s b₀ b h n t at end) where
+  module _ {b : List ℕ} {h : Tables} {n : ℕ} {t : Trailer} {at end : ℕ}
+      (f : Feeding p names c s b₀ b h n t at end) where
     -- No place passes 64 bits.
     pub place-small : placed c at ≤ largest
     place-small = omega (arith, within-64-bits c (length s) (f .ready) .0, f .reached .inside)

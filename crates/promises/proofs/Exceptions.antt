@@ -27,17 +27,17 @@ use Rattle.promises.specs.Back.{Needed}
 
 pub needed : Needed
 unfolding
-    bind guard pick _≤?_ _=?_ _∧?_ _∨?_ bytesOf findPart findMaybe textOf partText maybeText restFrom nameFrom isDigit
-    allDigits valueFrom readDigits readNat readInt digits placesIn placesOf padded signed zeros isAscii cut columns
-    sized asciiIn ascii field mnemonicText readThree threeText timeOf readTime timeText dateOf readDate dateText
-    coord.compassLetter coord.signOf coord.coordOf coord.lettered coord.readCoord coord.coordText coord.latitude
-    coord.longitude coord.latitudeIn coord.longitudeIn position.readBoth position.readPosition position.positionText
-    maker.letterOf maker.tripleSpelt maker.tripleOf maker.known maker.firstOf maker.isLetter maker.letterMaker
-    readDefinition readExtension extensionText tableOf readDefs readBody isTable readTable defsOf defsText tableBody
-    tableText tableRead aNew aOf letterForm readA tripleText aBody aText validLetter validOf readHeights readFix
-    readB tailText bBody bText turns readFlight readTask readDeclaration flightText taskText declarationBody
-    declarationText readTurnpoint turnpointBody turnpointText readTimed readK kBody kText kindOf readC readKind readLine recordText recordTable
-    answerPrinted reprinted speltFrom spelt
+    bind guard pick _≤?_ _=?_ _∧?_ _∨?_ bytesOf findPart findMaybe textOf partText maybeText restFrom nameFrom
+    isDigit allDigits valueFrom readDigits readNat readInt digits placesIn placesOf padded signed zeros isAscii cut
+    columns sized asciiIn ascii field mnemonicText readThree threeText timeOf readTime timeText dateOf readDate
+    dateText coord.compassLetter coord.signOf coord.coordOf coord.lettered coord.readCoord coord.coordText
+    coord.latitude coord.longitude coord.latitudeIn coord.longitudeIn position.readBoth position.readPosition
+    position.positionText maker.letterOf maker.tripleSpelt maker.tripleOf maker.known maker.firstOf maker.isLetter
+    maker.letterMaker readDefinition readExtension extensionText tableOf readDefs readBody isTable readTable defsOf
+    defsText tableBody tableText tableRead aNew aOf letterForm readA tripleText aBody aText validLetter validOf
+    readHeights readFix readB tailText bBody bText turns readFlight readTask readDeclaration flightText taskText
+    declarationBody declarationText readTurnpoint turnpointBody turnpointText readTimed readK kBody kText kindOf
+    readC readKind readLine recordText recordTable answerPrinted reprinted speltFrom spelt
 needed = record {
   letter-form = refl;
   time = refl;

@@ -20,7 +20,8 @@ use Rattle.promises.specs.Demand3.{Demand3}
 -- ---- one letter, and the values that its lines name: they are read as tables, an accepted table is an accepted line,
 -- and a fresh walk has none
 
-module _ {R : Type 0} (E : Extended R) (leaves : (s : List ℕ) → E .named .leaves s ≡ setBy (readTable s)) (line : Record)
+module _ {R : Type 0} (E : Extended R) (leaves : (s : List ℕ) → E .named .leaves s ≡ setBy (readTable s))
+    (line : Record)
     (accepted : (s : List ℕ) (ds : List Extension) → E .named .begins s ≡ true → readTable s ≡ ok ds →
     readLine s ≡ ok line)
     (fresh-none : isSet (E .named .view noTables .slot) ≡ false) where

@@ -70,8 +70,8 @@ definitionShown e = numberShown (e .«start_byte»)
 unfoldable pub tableShown : Table → List ℕ
 tableShown t = numberShown (t .count) ++ texts definitionShown (defsOf t)
 
--- The fields of a record of the line s; t is that line's own table, h what is in force at it: the values of a B line are
--- looked up in the I lines' table, those of a K line in the J lines'.
+-- The fields of a record of the line s; t is that line's own table, h what is in force at it: the values of a B line
+-- are looked up in the I lines' table, those of a K line in the J lines'.
 unfoldable pub recordShown : Record → Table → Tables → List ℕ → List ℕ → List ℕ
 recordShown (Record.A r) t h names s = aShown r
 recordShown (Record.B r) t h names s = bShown r (h .i) names s

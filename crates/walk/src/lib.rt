@@ -99,7 +99,8 @@ impl Walk {
 
     // The value itself, as a part of the caller's own line.
     pub fn get_extension(self, fix: BRecord, name: Mnemonic, line: &[u8]) -> &[u8]
-        ensures { λ r. ⌜ Shows (line .entry) (shown (lookUp 35 (fix .rest) (self .held .i) name (now (line .entry)))) r ⌝ }
+        ensures { λ r. ⌜ Shows (line .entry)
+            (shown (lookUp 35 (fix .rest) (self .held .i) name (now (line .entry)))) r ⌝ }
     {
         let held = self.held.i;
         let rest = fix.rest;

@@ -67,7 +67,8 @@ module _ {M : Type 1} (𝓤 : URA M) (H : Heap 𝓤) (A : Atoms 𝓤) (mem : Mem
   TablesAt = tripleOf 𝓤 H A callee.signature (callee.spec 𝓤 H A mem run)
 
 module _ {M : Type 1} (𝓤 : URA M) (H : Heap 𝓤) (A : Atoms 𝓤) (W : Given 𝓤 H A) (mem : Memory → SProp 𝓤)
-    (run : Routine → Fun 𝓤) (κ : Lft) (q : Share) (d : LogReader) (h : Tables) (g : Is U.the-row h (heldVal h ∷ [])) where
+    (run : Routine → Fun 𝓤) (κ : Lft) (q : Share) (d : LogReader) (h : Tables)
+    (g : Is U.the-row h (heldVal h ∷ [])) where
   abbrev hv : Val
   hv = heldVal h
 

@@ -35,7 +35,8 @@ kept c =
     let n = v .before .before .before in
     step-line _ _ (sym (n .cut .given .1) ∙ n .before .before .next .ensures) (v .view .ensures .bytes)
     (b .before .parse-line .ensures)
-    (other-line _ _ (sym (b .begins .ensures) ∙ b2 .before .if1 .left) (sym (b2 .begins2 .ensures) ∙ c .before .if2 .left))
+    (other-line _ _ (sym (b .begins .ensures) ∙ b2 .before .if1 .left)
+    (sym (b2 .begins2 .ensures) ∙ c .before .if2 .left))
 
 pub step-spec : {M : Type 1} → statement M
 step-spec =
