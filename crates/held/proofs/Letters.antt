@@ -12,7 +12,7 @@ module _ (t : Tables) (s : List ℕ) where
   unfolding begins
   i-not-j b = let i = is= (both b .1) in holds (both b .0) (no= (λ j. omega (arith, sym i ∙ j)))
 
-  -- an I line sets the one table, or removes it
+  -- an I line sets the one table, or spoils it
   pub i-line : {h : Held} → begins 73 s ≡ true → h ≡ setBy (readTable s) →
       _≡_ {A = Tables} (record { i = h; j = t .j }) (tablesAfter t s)
   unfolding tablesAfter heldAfter pick

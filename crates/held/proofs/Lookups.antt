@@ -1,14 +1,15 @@
 -- Lookup by name: a turn of the loop over a table's definitions, and what a refused line leaves.
-use Rattle.text.specs.Prelude.{ℕ, _+_, _≤_, _<_, _≡_, false, List, length, drop, getD, Res, ok, no, pick}
-use Rattle.text.proofs.Prelude.{sym, drop-of-length-le, drop-cons, length-take-le, getD-take, off, stop}
+use Rattle.text.specs.Prelude.{ℕ, _+_, _≤_, _<_, _≡_, List, length, drop, getD, Res, ok, no, pick}
+use Rattle.text.proofs.Prelude.{sym, ap, drop-of-length-le, drop-cons, length-take-le, getD-take, off}
 use native.Mathlib.Numerals.{add-one}
-use Rattle.text.specs.declared.{refusal.Refusal.Refusal, refusal.Refusal.the-variants.NoDefinition}
+use Rattle.text.specs.declared.refusal.Refusal.{Refusal}
+use Rattle.text.specs.declared.refusal.Refusal.the-variants.{NoTable, SpoiledTable, NotDefined}
 use Rattle.part.specs.declared.Part.{Part}
 use Rattle.field.specs.declared.Mnemonic.{Mnemonic}
 use Rattle.table.specs.Table.{empty, defsOf}
 use Rattle.extension.specs.declared.Extension.{Extension}
 use Rattle.table.specs.declared.Table.{Table}
-use Rattle.held.specs.Held.{isSet, noTable, setBy, sameName, firstNamed, define, lookUp}
+use Rattle.held.specs.Held.{noTable, spoiled, setBy, sameName, firstNamed, inForce, define, lookUp}
 use Rattle.held.specs.declared.Held.{Held}
 
 -- ---- the loop: what is left from i on
@@ -24,7 +25,7 @@ module _ (t : Table) (name : Mnemonic) (i : ℕ) (inside : t .count ≤ length (
       rw (drop-cons (defsOf t) i empty k, getD-take (t .count) (t .defs) i empty more, add-one)
 
   -- past the count there is none
-  pub none-left : t .count ≤ i → no NoDefinition ≡ firstNamed name (drop i (defsOf t))
+  pub none-left : t .count ≤ i → no NotDefined ≡ firstNamed name (drop i (defsOf t))
   unfolding firstNamed defsOf
   none-left end =
       let k : length (defsOf t) ≤ i = rw (length-take-le (t .count) (t .defs) inside) end in
@@ -32,13 +33,23 @@ module _ (t : Table) (name : Mnemonic) (i : ℕ) (inside : t .count ≤ length (
 
 -- ---- no table
 
--- with no table in force every lookup is 8
-pub look-none : (base : ℕ) (rest : Part) (h : Held) (name : Mnemonic) (s : List ℕ) → isSet (h .slot) ≡ false
-    → lookUp base rest h name s ≡ no NoDefinition
-unfolding lookUp define
-look-none base rest h name s none = sym (off _ (stop _ none))
+module _ (base : ℕ) (rest : Part) (h : Held) (name : Mnemonic) (s : List ℕ) where
+  -- what is no table in force is what the lookup answers
+  look-none : {n : Refusal} → no n ≡ inForce (h .slot) (h .table) → lookUp base rest h name s ≡ no n
+  unfolding lookUp define
+  look-none e = sym (off _ (off _ e))
 
--- a refused line leaves no table in force
-pub refused-leaves-none : (n : Refusal) (m : Res (List Extension)) → m ≡ no n → isSet (setBy m .slot) ≡ false
-unfolding isSet setBy noTable
-refused-leaves-none n m refused = rw refused
+  -- with no line of the letter so far every lookup is 13
+  pub look-never : h ≡ noTable → lookUp base rest h name s ≡ no NoTable
+  unfolding inForce noTable
+  look-never e = look-none (ap (λ (k : Held). inForce (k .slot) (k .table)) (sym e))
+
+  -- after one that was refused it is 14
+  pub look-spoiled : h ≡ spoiled → lookUp base rest h name s ≡ no SpoiledTable
+  unfolding inForce spoiled
+  look-spoiled e = look-none (ap (λ (k : Held). inForce (k .slot) (k .table)) (sym e))
+
+-- a refused line spoils the table
+pub refused-spoils : (n : Refusal) (m : Res (List Extension)) → m ≡ no n → setBy m ≡ spoiled
+unfolding setBy
+refused-spoils n m refused = rw refused

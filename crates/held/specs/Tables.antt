@@ -8,6 +8,6 @@ use Rattle.held.specs.declared.tables.Tables.{Tables}
 unfoldable pub noTables : Tables
 noTables = record { i = noTable; j = noTable }
 
--- What is held after a line: I lines set or remove the one table, J lines the other.
+-- What is held after a line: I lines set or spoil the one table, J lines the other.
 unfoldable pub tablesAfter : Tables → List ℕ → Tables
 tablesAfter t s = record { i = heldAfter (code "I") (t .i) s; j = heldAfter (code "J") (t .j) s }

@@ -16,8 +16,10 @@ use table::Verdict;
 use text::line::begins;
 use text::refusal::Refusal;
 
+// No line of the letter so far; the last one was refused; or its table is in force.
 pub enum Slot {
-    Empty,
+    Never,
+    Spoiled,
     Set,
 }
 
@@ -52,22 +54,22 @@ fn first_named(table: Table, name: Mnemonic) -> ExtensionRead
         }
         i += 1;
     }
-    ExtensionRead::Refused(Refusal::NoDefinition)
+    ExtensionRead::Refused(Refusal::NotDefined)
 }
 
 impl Held {
-    // 99 empty slots, and no table.
+    // 99 empty slots, and no line of the letter so far.
     pub fn new() -> Held
         ensures { λ r. ⌜ r ≡ noTable ⌝ }
     {
         let table = Table::new();
         Held {
             table,
-            slot: Slot::Empty,
+            slot: Slot::Never,
         }
     }
 
-    // What a line of the letter leaves.
+    // What a line of the letter leaves: its table, or where it is refused none, and the mark of that.
     pub fn set_by(line: &[u8]) -> Held
         ensures { λ r. ⌜ r ≡ setBy (readTable (now (line .entry))) ⌝ }
     {
@@ -81,12 +83,12 @@ impl Held {
             },
             Verdict::Refused(_no) => Held {
                 table,
-                slot: Slot::Empty,
+                slot: Slot::Spoiled,
             },
         }
     }
 
-    // What is held after a line: one that begins with the letter sets or removes the table, and no other touches it.
+    // What is held after a line: one that begins with the letter sets or spoils the table, and no other touches it.
     pub fn after(self, letter: u8, line: &[u8]) -> Held
         ensures { λ r. ⌜ r ≡ heldAfter letter self (now (line .entry)) ⌝ }
     {
@@ -103,10 +105,11 @@ impl Held {
         let slot = self.slot;
         let table = self.table;
         match slot {
-            Slot::Empty => ExtensionRead::Refused(Refusal::NoDefinition),
+            Slot::Never => ExtensionRead::Refused(Refusal::NoTable),
+            Slot::Spoiled => ExtensionRead::Refused(Refusal::SpoiledTable),
             Slot::Set => {
                 if 99 < table.count {
-                    return ExtensionRead::Refused(Refusal::NoDefinition);
+                    return ExtensionRead::Refused(Refusal::NotDefined);
                 }
                 first_named(table, name)
             }

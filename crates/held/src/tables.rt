@@ -19,19 +19,19 @@ impl Tables {
         Tables { i, j }
     }
 
-    // What is held after a line: I lines set or remove the one table, J lines the other.
+    // What is held after a line: I lines set or spoil the one table, J lines the other.
     pub fn after(self, line: &[u8]) -> Tables
         ensures { λ r. ⌜ r ≡ tablesAfter self (now (line .entry)) ⌝ }
     {
         if begins(b'I', line) {
-            let i = Held::set_by(line);
+            let set = Held::set_by(line);
             let j = self.j;
-            return Tables { i, j };
+            return Tables { i: set, j };
         }
         if begins(b'J', line) {
             let i = self.i;
-            let j = Held::set_by(line);
-            return Tables { i, j };
+            let set = Held::set_by(line);
+            return Tables { i, j: set };
         }
         self
     }

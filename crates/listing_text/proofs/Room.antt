@@ -27,7 +27,7 @@ use Rattle.listing_text.specs.Listing.{lineOf, listed, listingText, room
 
 -- An answer of at most two characters, and heights of at most twelve.
 abbrev Short : Res Record → Type 0
-Short m = (answered m ≤ 12) × (length (heightsOf (answerFix m)) ≤ 12)
+Short m = (answered m ≤ 15) × (length (heightsOf (answerFix m)) ≤ 12)
 
 -- nothing is said of what is found
 finds-any : {A : Type 0} {m : Res A} → Finds m (λ _. Unit)
@@ -69,7 +69,7 @@ kind-short b s =
     (picked-has P _ (finds-ok (omega arith)) (finds-ok (omega arith)))))))))
 
 -- a refusal has a number of at most two characters
-refusal-le : (n : Refusal) → numberOf n ≤ 12
+refusal-le : (n : Refusal) → numberOf n ≤ 15
 refusal-le Refusal.Syntax = omega arith
 refusal-le Refusal.NotAscii = omega arith
 refusal-le Refusal.UnreadableNumber = omega arith
@@ -77,9 +77,11 @@ refusal-le Refusal.OutOfRange = omega arith
 refusal-le Refusal.BadExtension = omega arith
 refusal-le Refusal.MissingExtension = omega arith
 refusal-le Refusal.WrongLength = omega arith
-refusal-le Refusal.NoDefinition = omega arith
 refusal-le Refusal.OutsideLine = omega arith
 refusal-le Refusal.NoRoom = omega arith
+refusal-le Refusal.NoTable = omega arith
+refusal-le Refusal.SpoiledTable = omega arith
+refusal-le Refusal.NotDefined = omega arith
 
 -- an answer is short where what it finds is
 found-short : (m : Res Record) → Finds m (λ r. Short (ok r)) → Short m

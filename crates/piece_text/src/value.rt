@@ -69,7 +69,8 @@ fn table_count(held: Held) -> usize
     let slot = held.slot;
     let table = held.table;
     match slot {
-        Slot::Empty => 0,
+        Slot::Never => 0,
+        Slot::Spoiled => 0,
         Slot::Set => definition_count(table),
     }
 }

@@ -1,7 +1,7 @@
 -- Demand 3, for this reader, its fresh walks and its lookups by name.
 use Rattle.text.specs.Prelude.{ℕ, _+_, _≡_, Bool, true, not, List, [], _∷_, _++_, length, take, drop, Res, ok, no}
-use Rattle.text.specs.Prelude.{_∨?_}
-use Rattle.text.specs.declared.refusal.Refusal.the-variants.{NoDefinition}
+use Rattle.text.specs.Prelude.{false, pick, _∨?_}
+use Rattle.text.specs.declared.refusal.Refusal.the-variants.{NoTable, SpoiledTable}
 use Rattle.part.specs.declared.Part.{Part}
 use Rattle.field.specs.declared.Mnemonic.{Mnemonic}
 use Rattle.b_record.specs.declared.BRecord.{BRecord}
@@ -10,7 +10,7 @@ use Rattle.records.specs.Record.{readLine}
 use Rattle.records.specs.declared.Record.{Record}
 use Rattle.log.specs.Line.{lineText}
 use Rattle.log.specs.Log.{chunks, closed, readings, Letter}
-use Rattle.log.specs.Demand.{Moved, Each, All, some}
+use Rattle.log.specs.Demand.{Moved, Each, some}
 use Rattle.held.specs.Held.{lookUp}
 use Rattle.held.specs.declared.Held.{Held}
 use Rattle.walk.specs.Readings.{reader, letterI, letterJ, Line-read}
@@ -44,10 +44,6 @@ module _ {R : Type 0} (E : Extended R) where
   abbrev pub SameValues : Line-read → Line-read → Type 0
   SameValues x y = (r : R) (name : Mnemonic) → x .answer ≡ ok (E .kind r) → valueOn r name x ≡ valueOn r name y
 
-  -- On an accepted line of the kind every lookup by name is refused.
-  abbrev pub NoValues : Line-read → Type 0
-  NoValues x = (r : R) (name : Mnemonic) → x .answer ≡ ok (E .kind r) → valueOn r name x ≡ no NoDefinition
-
   -- Where `stay` holds these lines keep their extension values; else they do from the next line on that begins with the
   -- letter.
   abbrev pub ValuesStay : Bool → List Line-read → List Line-read → Type 0
@@ -65,6 +61,15 @@ module _ {R : Type 0} (E : Extended R) where
       (E .named .begins (lineText c) ≡ true → (r : Record) → readLine (lineText c) ≡ ok r → ⊥)
       × NoneAccepted cs
 
+  -- On every accepted line of the kind every lookup by name is refused: with 13 where no line up to there begins with
+  -- the letter, and with 14 otherwise. `seen` says whether one stands before these lines.
+  abbrev pub NoValues : Bool → List Line-read → Type 0
+  NoValues seen [] = Unit
+  NoValues seen (x ∷ xs) =
+      ((r : R) (name : Mnemonic) → x .answer ≡ ok (E .kind r) →
+      valueOn r name x ≡ no (pick (seen ∨? E .named .begins (x .line)) SpoiledTable NoTable))
+      × NoValues (seen ∨? E .named .begins (x .line)) xs
+
   -- What the demand says of one letter and of the values that its lines name, where behind the whole lines `pre` the
   -- run `old` is replaced by the run `new`.
   pub record Values (pre old new post : List ℕ) : Type 0 where
@@ -75,10 +80,10 @@ module _ {R : Type 0} (E : Extended R) where
         (afterRun pre new post)
         (afterRun pre old post)
     -- If the removed run held all the log's lines of the letter and the new run has none that is accepted, every lookup
-    -- of an extension by name on an accepted line of the kind is refused. (A refused line that begins with the letter
-    -- may stay anywhere: it sets no table.)
+    -- of an extension by name on an accepted line of the kind is refused, with 13 or 14. (A refused line that begins
+    -- with the letter may stay anywhere: it sets no table.)
     pub refused : NoneAccepted (chunks pre) → NoneAccepted (chunks new) → NoneAccepted (chunks post) →
-        All reader NoValues (readings reader (pre ++ (new ++ post)))
+        NoValues false (readings reader (pre ++ (new ++ post)))
 
 -- Of a log that begins with the whole lines `pre`, the run `old` of whole lines behind them is replaced by the run
 -- `new`.

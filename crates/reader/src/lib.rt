@@ -25,7 +25,7 @@ pub fn next_at(log: &[u8], place: usize, number: u64) -> Next
     at.next(log)
 }
 
-// What is held after that line: I and J lines set or remove their tables.
+// What is held after that line: I and J lines set or spoil their tables.
 pub fn tables_at(log: &[u8], place: usize, held: Tables) -> Tables
     ensures { λ r. ⌜ r ≡ tablesAfter held (textAt place (now (log .entry))) ⌝ }
 {

@@ -17,7 +17,7 @@ use Rattle.walk.specs.declared.Taken.the-variants.{Line, Done}
 abbrev pub reader : Reader (Res Record) Tables
 reader = record { read = readLine; after = λ p t s. tablesAfter t s; start = noTables }
 
--- A line that begins with the letter sets or removes the table, and no other touches it.
+-- A line that begins with the letter sets or spoils the table, and no other touches it.
 abbrev pub SetBy : ℕ → (Tables → Held) → Type 0
 SetBy letter view = (p : ℕ) (t : Tables) (s : List ℕ) →
     view (tablesAfter t s) ≡ pick (begins letter s) (setBy (readTable s)) (view t)
@@ -32,7 +32,7 @@ pub j-lines-set : SetBy (code "J") (λ t. t .j)
 unfolding tablesAfter heldAfter
 j-lines-set p t s = refl
 
--- A letter with its table: an accepted line replaces it, a refused one removes it.
+-- A letter with its table: an accepted line replaces it, a refused one spoils it.
 abbrev tableLetter : (letter : ℕ) (view : Tables → Held) → SetBy letter view → Letter reader Held
 tableLetter letter view law =
     record { view = view; begins = begins letter; leaves = λ s. setBy (readTable s); law = law }

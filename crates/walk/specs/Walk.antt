@@ -18,7 +18,7 @@ unfoldable pub readingOf : Res Record → Reading
 readingOf (ok r) = Accepted r
 readingOf (no n) = Refused n
 
--- A step to the line that comes next: I and J lines set or remove their tables. Done changes nothing.
+-- A step to the line that comes next: I and J lines set or spoil their tables. Done changes nothing.
 unfoldable pub stepTo : List ℕ → Walk → Next → Step
 stepTo s w (Next.Line cut after) = record {
   taken = Line (cut .line) (readingOf (readLine (bytesOf (cut .line) s)));

@@ -135,7 +135,7 @@ impl Tally {
         };
         let of = if kind(row.line) == "K" { "K lookups" } else { "B lookups" };
         for (lookup, answer) in row.lookups.iter().zip(answers) {
-            self.answer(of, answer.get(..1));
+            self.answer(of, answer.split(|&b| b == b'@').next());
             if lookup.answer == answer {
                 continue;
             }

@@ -74,7 +74,32 @@ pub fn rows<'l>(log: &'l [u8], names: &[Name]) -> Vec<Row<'l>> {
     lines(log).into_iter().zip(1..).map(|(line, number)| row(number, line, &mut tables, names)).collect()
 }
 
-type Table<'l> = Option<Vec<Extension<'l>>>;
+/// What the lines of one letter leave: nothing so far, the mark of one that was refused, or the definitions of the last.
+#[derive(Default)]
+enum Table<'l> {
+    #[default]
+    Never,
+    Spoiled,
+    Set(Vec<Extension<'l>>),
+}
+
+impl<'l> Table<'l> {
+    fn defined(&self) -> &[Extension<'l>] {
+        match self {
+            Table::Set(definitions) => definitions,
+            _ => &[],
+        }
+    }
+
+    /// The answer to a name that is not defined.
+    fn undefined(&self) -> &'static [u8] {
+        match self {
+            Table::Never => b"13",
+            Table::Spoiled => b"14",
+            Table::Set(_) => b"15",
+        }
+    }
+}
 
 /// The I lines' table, for B lines, and the J lines', for K lines.
 #[derive(Default)]
@@ -89,8 +114,8 @@ fn row<'l>(number: usize, line: &'l [u8], tables: &mut Tables<'l>, names: &[Name
     let mut row = Row { line, how: How::Plain, head: Vec::new(), lookups: Vec::new(), tail: Vec::new() };
     write!(row.head, "{} {} ", number, letter as char).unwrap();
     match first {
-        b'I' => tables.i = None,
-        b'J' => tables.j = None,
+        b'I' => tables.i = Table::Spoiled,
+        b'J' => tables.j = Table::Spoiled,
         _ => {}
     }
     match std::str::from_utf8(line) {
@@ -98,8 +123,8 @@ fn row<'l>(number: usize, line: &'l [u8], tables: &mut Tables<'l>, names: &[Name
         Ok(text) => match read(text, &mut row) {
             Some(Record::B(fix)) => row.lookups = lookups(&fix, text, &tables.i, names),
             Some(Record::K(data)) => row.lookups = lookups(&data, text, &tables.j, names),
-            Some(Record::I(record)) => tables.i = Some(record.0.extensions),
-            Some(Record::J(record)) => tables.j = Some(record.0.extensions),
+            Some(Record::I(record)) => tables.i = Table::Set(record.0.extensions),
+            Some(Record::J(record)) => tables.j = Table::Set(record.0.extensions),
             _ => {}
         },
         Err(_) => {
@@ -323,11 +348,11 @@ fn lookups<'l, R>(record: &R, line: &str, table: &Table<'l>, names: &[Name]) -> 
 where
     R: Extendable + RefUnwindSafe,
 {
-    let defined = table.as_deref().unwrap_or(&[]);
+    let defined = table.defined();
     let name_of = |d: &Extension| -> Name { d.mnemonic.as_bytes().try_into().unwrap() };
     let look = |name: Name| {
         let definition = defined.iter().find(|d| name_of(d) == name).cloned();
-        let answer = definition.as_ref().map_or(b"8".to_vec(), |d| value(record, line, d));
+        let answer = definition.as_ref().map_or(table.undefined().to_vec(), |d| value(record, line, d));
         Lookup { base: R::BASE_LENGTH, name, definition, answer }
     };
     if names.is_empty() {

@@ -9,6 +9,7 @@ unfolding isSet
 table-count-spec =
     tie.close
     (tie.spec
-    (search needs) (search needs) (search needs)
+    (search needs) (search needs) (search needs) (search needs)
     (λ c. sym (no-names _ (rw (c .enum-told .given .1))))
-    (λ c. c .definition-count .ensures ∙ sym (count-names _ (rw (c .before .enum-told2 .given .1)))))
+    (λ c. sym (no-names _ (rw (c .enum-told2 .given .1))))
+    (λ c. c .definition-count .ensures ∙ sym (count-names _ (rw (c .before .enum-told3 .given .1)))))
