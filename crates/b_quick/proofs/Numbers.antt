@@ -11,8 +11,8 @@ use Rattle.field.specs.Field.{isAscii, sized}
 use Rattle.text.proofs.Lines.{cut-length}
 use Rattle.field.proofs.Digits.{cut-cut, byte-cut, cut-digits}
 use Rattle.field.proofs.Fields.{columns-of-ascii}
-use Rattle.datetime.specs.Three.{readThree}
-use Rattle.datetime.specs.Time.{timeOf, readTime}
+use Rattle.three.specs.Three.{readThree}
+use Rattle.time.specs.Time.{timeOf, readTime}
 use Rattle.coord.specs.Coord.{lettered, readCoord, latitude, longitude, latitudeIn, longitudeIn}
 use Rattle.coord.specs.Coord.{latitudeBy, longitudeBy}
 use Rattle.coord.specs.declared.{Compass.Compass, RawCoord.RawCoord, RawLatitude.RawLatitude, RawLongitude.RawLongitude}

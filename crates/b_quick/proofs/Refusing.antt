@@ -6,7 +6,7 @@ use Rattle.text.specs.declared.refusal.Refusal.{Refusal}
 use Rattle.text.proofs.Reading.{Written, no-sign}
 use Rattle.field.specs.Field.{sized, asciiIn, ascii, field}
 use Rattle.field.proofs.Digits.{cut-cut}
-use Rattle.datetime.specs.Time.{readTime}
+use Rattle.time.specs.Time.{readTime}
 use Rattle.coord.specs.Coord.{readCoord, latitude, longitude}
 use Rattle.coord.specs.declared.Compass.{Compass}
 use Rattle.coord.specs.declared.Compass.the-variants.{North, South, East, West}

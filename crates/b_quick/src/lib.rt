@@ -19,12 +19,12 @@ use coord::LatitudeRead;
 use coord::LongitudeRead;
 use coord::RawLatitude;
 use coord::RawLongitude;
-use datetime::Time;
-use datetime::TimeRead;
 use field::all_digits;
 use field::is_ascii;
 use part::Part;
 use position::RawPosition;
+use time::Time;
+use time::TimeRead;
 
 pub enum Quick {
     Fix(BRecord),

@@ -8,8 +8,6 @@ ghost use Rattle.put.specs.Put.{Wrote};
 ghost use Rattle.print.specs.Print.{Prints};
 ghost use Rattle.b_record.specs.BRecord.{pressureText, gpsText, validLetter, validOf, readHeights, readB};
 ghost use Rattle.b_record.specs.BRecord.{tailText, bPiece, bText, bBook, validRes, heightsRes, bRes};
-use datetime::Time;
-use datetime::TimeRead;
 use extension::Extension;
 use field::is_ascii;
 use part::Found;
@@ -23,6 +21,8 @@ use put::put_part;
 use text::number::I16Read;
 use text::number::read_i16;
 use text::refusal::Refusal;
+use time::Time;
+use time::TimeRead;
 
 pub enum FixValid {
     Valid,

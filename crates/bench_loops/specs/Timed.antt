@@ -3,7 +3,7 @@ use Rattle.text.specs.Prelude.{ℕ, _+_, _%_, _^_, _≡_, List, length, ℤ, po
 use Rattle.part.specs.Part.{bytesOf, shown}
 use Rattle.field.specs.declared.Mnemonic.{Mnemonic}
 use Rattle.print.specs.Print.{answerTo, leftBy}
-use Rattle.datetime.specs.Time.{secondsOf}
+use Rattle.time.specs.Time.{secondsOf}
 use Rattle.b_record.specs.declared.BRecord.{BRecord}
 use Rattle.records.specs.Record.{recordFix, answerFix}
 use Rattle.records.specs.declared.{Record.Record, MaybeFix.MaybeFix}

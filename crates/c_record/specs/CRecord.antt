@@ -5,8 +5,8 @@ use Rattle.text.specs.Prelude.{signed}
 use Rattle.part.specs.Part.{nameFrom, maybeText, maybeBytes}
 use Rattle.text.specs.declared.refusal.Refusal.the-variants.{Syntax}
 use Rattle.field.specs.Field.{asciiIn}
-use Rattle.datetime.specs.Time.{readTime, timeText, timeBook}
-use Rattle.datetime.specs.Date.{readDate, dateText, dateBook}
+use Rattle.time.specs.Time.{readTime, timeText, timeBook}
+use Rattle.date.specs.Date.{readDate, dateText, dateBook}
 use Rattle.c_record.specs.declared.{MaybeDate.MaybeDate, FlightRead.FlightRead, Task.Task, TaskRead.TaskRead}
 use Rattle.c_record.specs.declared.{CRecordDeclaration.CRecordDeclaration, DeclarationRead.DeclarationRead}
 use Rattle.c_record.specs.declared.MaybeDate.the-variants.{Missing, On}

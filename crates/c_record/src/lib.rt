@@ -9,10 +9,8 @@ ghost use Rattle.print.specs.Print.{Prints};
 ghost use Rattle.c_record.specs.CRecord.{turns, readFlight, readTask, readDeclaration, flightText, taskText};
 ghost use Rattle.c_record.specs.CRecord.{declarationPiece, declarationText, flightBook, declarationBook};
 ghost use Rattle.c_record.specs.CRecord.{flightRes, taskRes, declarationRes};
-use datetime::Date;
-use datetime::DateRead;
-use datetime::Time;
-use datetime::TimeRead;
+use date::Date;
+use date::DateRead;
 use field::is_ascii;
 use part::Found;
 use part::MaybePart;
@@ -27,6 +25,8 @@ use text::number::U16Read;
 use text::number::read_i8;
 use text::number::read_u16;
 use text::refusal::Refusal;
+use time::Time;
+use time::TimeRead;
 
 // A date that may be missing, in the place of the Rust's `Option<Date>`.
 pub enum MaybeDate {

@@ -4,10 +4,8 @@ use coord::LatitudeRead;
 use coord::LongitudeRead;
 use coord::RawLatitude;
 use coord::RawLongitude;
-use datetime::Date;
-use datetime::DateRead;
-use datetime::Time;
-use datetime::TimeRead;
+use date::Date;
+use date::DateRead;
 use extension::Extension;
 use extension::ExtensionRead;
 use field::Mnemonic;
@@ -16,6 +14,8 @@ use manufacturer::Manufacturer;
 use manufacturer::MaybeTriple;
 use position::PositionRead;
 use position::RawPosition;
+use time::Time;
+use time::TimeRead;
 
 fn answer_time(read: TimeRead) {
     match read {

@@ -4,7 +4,7 @@ use Rattle.text.specs.Prelude.{byte, columns}
 use Rattle.part.specs.Part.{restFrom, partText, partBytes}
 use Rattle.text.specs.declared.refusal.Refusal.the-variants.{Syntax}
 use Rattle.field.specs.Field.{ascii}
-use Rattle.datetime.specs.Time.{readTime, timeText, timeBook}
+use Rattle.time.specs.Time.{readTime, timeText, timeBook}
 use Rattle.k_record.specs.declared.{KRecord.KRecord, KRead.KRead}
 
 -- Time 1-7, and the rest.

@@ -5,8 +5,6 @@ ghost use Rattle.extension.specs.Value.{findValue};
 ghost use Rattle.put.specs.Put.{Wrote};
 ghost use Rattle.print.specs.Print.{Prints};
 ghost use Rattle.k_record.specs.KRecord.{readK, kPiece, kText, kBook, kRes};
-use datetime::Time;
-use datetime::TimeRead;
 use extension::Extension;
 use field::is_ascii;
 use part::Found;
@@ -15,6 +13,8 @@ use print::printed::Printed;
 use put::put_byte;
 use put::put_part;
 use text::refusal::Refusal;
+use time::Time;
+use time::TimeRead;
 
 // A time by default, and what the J line names behind it, as wind and temperature.
 pub struct KRecord {

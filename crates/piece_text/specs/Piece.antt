@@ -2,7 +2,8 @@
 use Rattle.text.specs.Prelude.{ℕ, code, List, [], _∷_, _++_, padded}
 use Rattle.part.specs.declared.{Part.Part, MaybePart.MaybePart}
 use Rattle.field.specs.Field.{mnemonicText}
-use Rattle.datetime.specs.declared.{Time.Time, Date.Date}
+use Rattle.time.specs.declared.Time.{Time}
+use Rattle.date.specs.declared.Date.{Date}
 use Rattle.coord.specs.Coord.{compassLetter}
 use Rattle.coord.specs.declared.RawCoord.{RawCoord}
 use Rattle.position.specs.declared.RawPosition.{RawPosition}

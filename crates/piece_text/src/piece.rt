@@ -6,8 +6,7 @@ ghost use Rattle.piece_text.specs.Piece.{positionShown};
 ghost use Rattle.piece_text.specs.Piece.{letterShown, tripleShown};
 use c_record::MaybeDate;
 use coord::RawCoord;
-use datetime::Date;
-use datetime::Time;
+use date::Date;
 use manufacturer::MaybeLetter;
 use manufacturer::MaybeTriple;
 use part::MaybePart;
@@ -15,6 +14,7 @@ use part::Part;
 use position::RawPosition;
 use print::number::put_nat;
 use put::put_byte;
+use time::Time;
 
 // A number in plain decimal.
 pub fn show_number(buf: &mut [u8], at: usize, n: u64) -> usize

@@ -5,7 +5,8 @@ use Rattle.text.specs.declared.refusal.Refusal.{Refusal}
 use Rattle.text.proofs.Answers.{made, told, u8-undone, u16-undone, i8-undone, i16-undone}
 use Rattle.part.proofs.Answers.{found-undone, shows-one}
 use Rattle.print.proofs.Answers.{prints-one, wrote-one}
-use Rattle.datetime.proofs.Answers.{time-undone, date-undone}
+use Rattle.time.proofs.Answers.{time-undone}
+use Rattle.date.proofs.Answers.{date-undone}
 use Rattle.coord.proofs.Answers.{latitude-undone, longitude-undone}
 use Rattle.position.proofs.Answers.{position-undone}
 use Rattle.extension.proofs.Answers.{extension-undone}

@@ -5,9 +5,9 @@ use Rattle.text.proofs.Prelude.{refl}
 use Rattle.part.specs.Part.{bytesOf, findPart, findMaybe, textOf, partText, maybeText, restFrom, nameFrom}
 use Rattle.text.specs.Number.{placesIn}
 use Rattle.field.specs.Field.{isAscii, sized, asciiIn, ascii, field, mnemonicText}
-use Rattle.datetime.specs.Three.{readThree, threeText}
-use Rattle.datetime.specs.Time.{timeOf, readTime, timeText, secondsOf}
-use Rattle.datetime.specs.Date.{dateOf, readDate, dateText}
+use Rattle.three.specs.Three.{readThree, threeText}
+use Rattle.time.specs.Time.{timeOf, readTime, timeText, secondsOf}
+use Rattle.date.specs.Date.{dateOf, readDate, dateText}
 use Rattle.coord.specs.Coord.{compassLetter, signOf, coordOf, lettered, readCoord, latitude, readLatitude}
 use Rattle.manufacturer.specs.Maker as maker
 use Rattle.extension.specs.Extension.{readDefinition, readExtension}

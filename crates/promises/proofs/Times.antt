@@ -2,9 +2,9 @@
 use Rattle.text.specs.Prelude.{ℕ, _≡_, List, length, Res}
 use Rattle.text.proofs.Prelude.{arith, refl}
 use Rattle.text.proofs.Finds.{Finds, finds-ok, finds-bind, finds-guard}
-use Rattle.datetime.specs.Three.{readThree, threeText}
-use Rattle.datetime.specs.Time.{timeOf, readTime, timeText}
-use Rattle.datetime.specs.Date.{dateOf, readDate, dateText}
+use Rattle.three.specs.Three.{readThree, threeText}
+use Rattle.time.specs.Time.{timeOf, readTime, timeText}
+use Rattle.date.specs.Date.{dateOf, readDate, dateText}
 use Rattle.promises.specs.Odd.{threePlus}
 use Rattle.promises.proofs.Columns.{finds-field}
 use Rattle.promises.proofs.Copies.{Copy, copy-columns, copy-last, finds-copy}

@@ -9,8 +9,8 @@ use Rattle.part.specs.declared.Part.{Part}
 use Rattle.put.specs.Put.{Wrote}
 use Rattle.print.specs.Print.{Prints}
 use Rattle.print.specs.declared.printed.Printed.{Printed}
-use Rattle.datetime.specs.Time.{timeRes}
-use Rattle.datetime.specs.Date.{dateRes}
+use Rattle.time.specs.Time.{timeRes}
+use Rattle.date.specs.Date.{dateRes}
 use Rattle.coord.specs.Coord.{latitudeRes, longitudeRes}
 use Rattle.position.specs.Position.{positionRes}
 use Rattle.extension.specs.Extension.{extensionRes}

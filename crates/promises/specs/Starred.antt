@@ -3,7 +3,7 @@ use Rattle.text.specs.Prelude.{code, _≡_, ok, no, bind, readInt, signed}
 use Rattle.part.specs.Part.{textOf}
 use Rattle.text.specs.declared.refusal.Refusal.the-variants.{Syntax, UnreadableNumber, OutOfRange, BadExtension}
 use Rattle.part.specs.declared.MaybePart.{MaybePart}
-use Rattle.datetime.specs.Time.{readTime, secondsOf}
+use Rattle.time.specs.Time.{readTime, secondsOf}
 use Rattle.coord.specs.Coord.{readLatitude}
 use Rattle.coord.specs.declared.Compass.the-variants.{North}
 use Rattle.manufacturer.specs.declared.Manufacturer.the-variants.{UnknownSingle}

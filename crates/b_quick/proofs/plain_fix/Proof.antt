@@ -2,7 +2,7 @@ use Rattle.text.specs.Prelude.{ℕ, _≤_, _≡_, true, List, length, now, ok, 
 use Rattle.text.proofs.Prelude.{needs, arith, refl, _∙_, came, on, first, second, so-true, so-false}
 use Rattle.text.proofs.Reading.{Written}
 use Rattle.field.specs.Field.{isAscii}
-use Rattle.datetime.specs.Time.{readTime, timeRes}
+use Rattle.time.specs.Time.{readTime, timeRes}
 use Rattle.coord.specs.Coord.{latitudeRes, longitudeRes}
 use Rattle.b_record.specs.BRecord.{validOf, validRes, readFix}
 use Rattle.b_quick.specs.Quick.{plainDigits, fixRead}

@@ -1,6 +1,6 @@
 use Rattle.text.specs.Prelude.{ℕ, _≡_, false, List, now, zeros}
 use Rattle.text.proofs.Prelude.{needs, refl, sym, _∙_, came, on, off, first, second}
-use Rattle.datetime.specs.Date.{dateRes}
+use Rattle.date.specs.Date.{dateRes}
 use Rattle.c_record.specs.CRecord.{readFlight}
 use Rattle.c_record.proofs.read_flight.Statement.{statement}
 use Rattle.c_record.proofs.read_flight.Tie as tie

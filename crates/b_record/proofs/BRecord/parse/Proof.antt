@@ -2,7 +2,7 @@ use Rattle.text.specs.Prelude.{ℕ, _≡_, true, false, List, now, Res, ok, no,
 use Rattle.text.proofs.Prelude.{needs, _∙_, came, on, off, pass, stop, yes≤, no≤, so-true, so-false}
 use Rattle.field.specs.Field.{isAscii, ascii, asciiIn}
 use Rattle.field.proofs.Fields.{columns-of-ascii}
-use Rattle.datetime.specs.Time.{readTime, timeIn, timeRes}
+use Rattle.time.specs.Time.{readTime, timeIn, timeRes}
 use Rattle.position.specs.Position.{readPosition, positionIn, positionRes}
 use Rattle.b_record.specs.BRecord.{validOf, validRes, readHeights, heightsRes, readFix, readB}
 use Rattle.b_record.specs.declared.BRecord.{BRecord}

@@ -1,7 +1,7 @@
 use Rattle.text.specs.Prelude.{_≡_, true}
 use Rattle.text.proofs.Prelude.{needs, sym, _∙_, holds, fails}
-use Rattle.datetime.specs.Date.{dateBook}
-use Rattle.datetime.specs.Time.{timeBook}
+use Rattle.date.specs.Date.{dateBook}
+use Rattle.time.specs.Time.{timeBook}
 use Rattle.c_record.specs.CRecord.{declarationBook}
 use Rattle.c_record.specs.declared.CRecordDeclaration.{CRecordDeclaration}
 use Rattle.c_record.proofs.CRecordDeclaration.by_the_book.Statement.{statement}

@@ -3,8 +3,8 @@ use Rattle.text.proofs.Prelude.{needs, came, on, off, pass, stop, yes≤, no≤
 use mir.Syntax.{w8}
 use mir.Val.{toZ, ofZ}
 use Rattle.field.specs.Field.{asciiIn}
-use Rattle.datetime.specs.Date.{readDate, dateRes}
-use Rattle.datetime.specs.Time.{readTime, timeRes}
+use Rattle.date.specs.Date.{readDate, dateRes}
+use Rattle.time.specs.Time.{readTime, timeRes}
 use Rattle.text.specs.declared.refusal.Refusal.the-variants.{Syntax}
 use Rattle.c_record.specs.declared.CRecordDeclaration.{CRecordDeclaration}
 use Rattle.c_record.specs.CRecord.{readFlight, readTask, readDeclaration, flightRes, taskRes}

@@ -2,7 +2,7 @@ use Rattle.text.specs.Prelude.{ℕ, _≡_, true, false, List, now, Res, ok, no,
 use Rattle.text.proofs.Prelude.{needs, refl, _∙_, came, on, off, pass, stop, yes≤, no≤, yes=, no=, so-true, so-false}
 use Rattle.field.specs.Field.{isAscii, ascii, asciiIn}
 use Rattle.field.proofs.Fields.{columns-of-ascii}
-use Rattle.datetime.specs.Time.{readTime, timeIn, timeRes}
+use Rattle.time.specs.Time.{readTime, timeIn, timeRes}
 use Rattle.k_record.specs.KRecord.{readTimed, readK}
 use Rattle.k_record.specs.declared.KRecord.{KRecord}
 use Rattle.k_record.proofs.KRecord.parse.Statement.{statement}

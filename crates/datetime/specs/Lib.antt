@@ -1,3 +1,0 @@
-pub mod Three
-pub mod Time
-pub mod Date
