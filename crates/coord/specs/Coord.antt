@@ -47,9 +47,11 @@ newCoord limit x y g t sign =
 unfoldable pub coordText : ℕ → RawCoord → List ℕ
 coordText d c = padded d (c .degrees) ++ (padded 5 (c .«minute_thousandths») ++ (compassLetter (c .sign) ∷ []))
 
--- By the book: thousandths below 60000.
-unfoldable pub coordBook : RawCoord → Bool
-coordBook c = c .«minute_thousandths» ≤? 59999
+-- By the book: at the limit no thousandths, and before it fewer than 60000; nothing past it.
+unfoldable pub coordBook : ℕ → RawCoord → Bool
+coordBook limit c =
+    pick (c .degrees =? limit) (c .«minute_thousandths» =? 0)
+    ((c .degrees ≤? limit) ∧? (c .«minute_thousandths» ≤? 59999))
 
 -- ---- latitude and longitude, which are types apart
 
@@ -100,6 +102,14 @@ latitudeText l = coordText 2 (l .0)
 -- Degrees in width 3, thousandths, letter.
 abbrev pub longitudeText : RawLongitude → List ℕ
 longitudeText l = coordText 3 (l .0)
+
+-- A latitude is by the book up to the pole.
+unfoldable pub latitudeBook : RawLatitude → Bool
+latitudeBook l = coordBook 90 (l .0)
+
+-- A longitude is by the book up to the meridian opposite Greenwich.
+unfoldable pub longitudeBook : RawLongitude → Bool
+longitudeBook l = coordBook 180 (l .0)
 
 -- ---- the answers of the code
 

@@ -5,7 +5,7 @@ ghost use Rattle.put.specs.Put.{Wrote};
 ghost use Rattle.print.specs.Print.{Prints};
 ghost use Rattle.coord.specs.Coord.{lettered, readLatitude, readLongitude, latitudeIn, longitudeIn, latitudeBy};
 ghost use Rattle.coord.specs.Coord.{longitudeBy, newLatitude, newLongitude, latitudeText, longitudeText};
-ghost use Rattle.coord.specs.Coord.{latitudeRes, longitudeRes};
+ghost use Rattle.coord.specs.Coord.{latitudeBook, longitudeBook, latitudeRes, longitudeRes};
 use crate::Compass;
 use crate::CoordRead;
 use crate::LatitudeRead;
@@ -73,6 +73,13 @@ impl RawLatitude {
             return LatitudeRead::Refused(Refusal::NotAscii);
         }
         RawLatitude::parse_ascii(text)
+    }
+
+    // A latitude that the globe has: none past the pole.
+    pub fn by_the_book(self) -> bool
+        ensures { λ r. ⌜ r ≡ latitudeBook self ⌝ }
+    {
+        self.0.by_the_book(90)
     }
 
     // The text as a piece, from a place on.
@@ -149,6 +156,13 @@ impl RawLongitude {
             return LongitudeRead::Refused(Refusal::NotAscii);
         }
         RawLongitude::parse_ascii(text)
+    }
+
+    // A longitude that the globe has: none past 180 degrees.
+    pub fn by_the_book(self) -> bool
+        ensures { λ r. ⌜ r ≡ longitudeBook self ⌝ }
+    {
+        self.0.by_the_book(180)
     }
 
     // The text as a piece, from a place on.

@@ -172,10 +172,16 @@ impl RawCoord {
         RawCoord::lettered(limit, x, y, degrees, thousandths, text[e])
     }
 
-    // The thousandths are below 60,000.
-    pub fn by_the_book(self) -> bool
-        ensures { λ r. ⌜ r ≡ coordBook self ⌝ }
+    // A coordinate up to a limit, which only latitude and longitude know.
+    fn by_the_book(self, limit: u8) -> bool
+        ensures { λ r. ⌜ r ≡ coordBook limit self ⌝ }
     {
+        if self.degrees == limit {
+            return self.minute_thousandths == 0;
+        }
+        if limit < self.degrees {
+            return false;
+        }
         self.minute_thousandths <= 59999
     }
 

@@ -2,6 +2,7 @@
 use Rattle.text.specs.Prelude.{ℕ, Bool, List, Res, ok, no, guard, _≤?_, _∧?_}
 use Rattle.text.specs.declared.refusal.Refusal.the-variants.{OutOfRange}
 use Rattle.field.specs.Field.{sized, field}
+use Rattle.calendar.specs.Days.{daysIn}
 use Rattle.three.specs.Three.{readThree, threeText}
 use Rattle.date.specs.declared.{Date.Date, DateRead.DateRead}
 
@@ -19,7 +20,7 @@ readDate = field 6 (readThree dateOf)
 unfoldable pub dateIn : List ℕ → Res Date
 dateIn = sized 6 (readThree dateOf)
 
--- A day that a calendar has: 1 to 31, and 1 to 12.
+-- A day of 1 to 31, and a month of 1 to 12.
 unfoldable pub dated : ℕ → ℕ → Bool
 dated d m = (1 ≤? d) ∧? (d ≤? 31) ∧? (1 ≤? m) ∧? (m ≤? 12)
 
@@ -33,9 +34,9 @@ newDate d m y =
 unfoldable pub dateText : Date → List ℕ
 dateText d = threeText (d .day) (d .month) (d .year)
 
--- By the book: day 1 to 31, month 1 to 12.
+-- By the book: a year of two digits, and a day that exists in its month.
 unfoldable pub dateBook : Date → Bool
-dateBook d = dated (d .day) (d .month)
+dateBook d = (d .year ≤? 99) ∧? (1 ≤? d .day) ∧? (d .day ≤? daysIn (d .month) (d .year))
 
 -- ---- the answers of the code
 

@@ -3,7 +3,8 @@ ghost use mathlib.Core.Path.{_≡_};
 ghost use Rattle.text.specs.Res.{ok};
 ghost use Rattle.put.specs.Put.{Wrote};
 ghost use Rattle.print.specs.Print.{Prints};
-ghost use Rattle.date.specs.Date.{dateOf, readDate, dateIn, newDate, dateText, dateBook, dateRes};
+ghost use Rattle.date.specs.Date.{dateOf, readDate, dateIn, dated, newDate, dateText, dateBook, dateRes};
+use calendar::days_in;
 use field::is_ascii;
 use print::printed::Printed;
 use text::refusal::Refusal;
@@ -24,17 +25,32 @@ pub enum DateRead {
 }
 
 impl Date {
-    // A calendar's day. Reading is more lenient: there a zero passes.
+    // A day of 1 to 31 and a month of 1 to 12. Reading is more lenient: there a zero passes.
     pub fn from_dmy(day: u8, month: u8, year: u8) -> DateRead
         ensures { λ r. ⌜ dateRes r ≡ newDate day month year ⌝ }
     {
-        let date = Date { day, month, year };
-        if date.by_the_book() {
+        if Date::dated(day, month) {
             if year <= 99 {
-                return DateRead::Ok(date);
+                return DateRead::Ok(Date { day, month, year });
             }
         }
         DateRead::Refused(Refusal::OutOfRange)
+    }
+
+    // A day and a month as construction takes them.
+    fn dated(day: u8, month: u8) -> bool
+        ensures { λ r. ⌜ r ≡ dated day month ⌝ }
+    {
+        if day < 1 {
+            return false;
+        }
+        if 31 < day {
+            return false;
+        }
+        if month < 1 {
+            return false;
+        }
+        month <= 12
     }
 
     // A date in a text that the caller knows to be ASCII: the test is not made again.
@@ -72,20 +88,17 @@ impl Date {
         Date::parse_ascii(text)
     }
 
-    // A day and a month of the calendar.
+    // A day that exists in its month.
     pub fn by_the_book(self) -> bool
         ensures { λ r. ⌜ r ≡ dateBook self ⌝ }
     {
+        if 99 < self.year {
+            return false;
+        }
         if self.day < 1 {
             return false;
         }
-        if 31 < self.day {
-            return false;
-        }
-        if self.month < 1 {
-            return false;
-        }
-        self.month <= 12
+        self.day <= days_in(self.month, self.year)
     }
 
     // The text as a piece, from a place on.

@@ -1,7 +1,7 @@
 -- A position: latitude first.
 use Rattle.text.specs.Prelude.{ℕ, Bool, List, _++_, Res, ok, no, bind, _∧?_, columns}
 use Rattle.field.specs.Field.{sized, field}
-use Rattle.coord.specs.Coord.{latitudeIn, longitudeIn, latitudeText, longitudeText, coordBook}
+use Rattle.coord.specs.Coord.{latitudeIn, longitudeIn, latitudeText, longitudeText, latitudeBook, longitudeBook}
 use Rattle.position.specs.declared.{RawPosition.RawPosition, PositionRead.PositionRead}
 
 -- Latitude, then longitude.
@@ -25,7 +25,7 @@ positionText p = latitudeText (p .lat) ++ longitudeText (p .lon)
 
 -- By the book: both coordinates are.
 unfoldable pub positionBook : RawPosition → Bool
-positionBook p = coordBook (p .lat .0) ∧? coordBook (p .lon .0)
+positionBook p = latitudeBook (p .lat) ∧? longitudeBook (p .lon)
 
 -- ---- the answers of the code
 

@@ -57,8 +57,8 @@ impl RawPosition {
     pub fn by_the_book(self) -> bool
         ensures { λ r. ⌜ r ≡ positionBook self ⌝ }
     {
-        if self.lat.0.by_the_book() {
-            return self.lon.0.by_the_book();
+        if self.lat.by_the_book() {
+            return self.lon.by_the_book();
         }
         false
     }

@@ -7,6 +7,7 @@ pub fn every(logs: &mut Logs) {
     numbers(logs);
     first_bytes(logs);
     makers(logs);
+    verdicts(logs);
     columns(logs);
     lengths(logs);
     logs.part("three fields of a line, each at each edge");
@@ -86,6 +87,29 @@ fn first_bytes(logs: &mut Logs) {
             let mut line = good.as_bytes().to_vec();
             line[0] = first;
             logs.line(&line);
+        }
+    }
+}
+
+fn verdicts(logs: &mut Logs) {
+    logs.part("every day of a hundred years, and the minutes at every degree");
+    for day in 0..=32 {
+        for month in 0..=13 {
+            for year in 0..=99 {
+                let date = format!("{day:02}{month:02}{year:02}");
+                logs.line(format!("C{date}092044000000000204").as_bytes());
+                logs.line(format!("C230718092044{date}000204").as_bytes());
+            }
+        }
+    }
+    for thousandths in [0, 1, 59999, 60000, 60001] {
+        for degrees in 0..=91 {
+            logs.line(format!("C{degrees:02}{thousandths:05}N01102500E").as_bytes());
+            logs.line(format!("B101530{degrees:02}{thousandths:05}S01102500EA0152301561").as_bytes());
+        }
+        for degrees in 0..=181 {
+            logs.line(format!("C4712345N{degrees:03}{thousandths:05}E").as_bytes());
+            logs.line(format!("B1015304712345N{degrees:03}{thousandths:05}WA0152301561").as_bytes());
         }
     }
 }

@@ -94,6 +94,23 @@ const FIRST: &[&str] = &[
     " ",
 ];
 
+/// By the book: the pole, the date line, and days that a month has or lacks.
+const VERDICTS: &[&str] = &[
+    "C9000000N18000000E",
+    "C9000001N01102500E",
+    "C4712345N18000001W",
+    "C4712345N09059999E",
+    "C8959999S17959999W",
+    "C290200092044290204000204",
+    "C290201092044000000000204",
+    "C230718092044290201000204",
+    "C300200092044000000000204",
+    "C310418092044000000000204",
+    "C300418092044311218000204",
+    "C000718092044000000000204",
+    "C010018092044000000000204",
+];
+
 /// Writes `stdin` and `stdout` in the folder.
 pub fn write(folder: &str) {
     let mut sample = sample();
@@ -150,5 +167,6 @@ fn sample() -> Vec<Vec<u8>> {
     let random: Vec<u8> = (0..40).flat_map(|seed| [log(&mut Random(seed), 300), b"\n".to_vec()].concat()).collect();
     let legible = |line: &&[u8]| !line.is_empty() && !line.iter().any(u8::is_ascii_control);
     sample.extend(lines(&random).into_iter().filter(legible).map(<[u8]>::to_vec));
+    sample.extend(VERDICTS.iter().map(|line| line.as_bytes().to_vec()));
     sample
 }

@@ -335,12 +335,28 @@ fn time_book(t: &Time) -> bool {
     t.hours <= 23 && t.minutes <= 59 && t.seconds <= 59
 }
 
+/// A day of the years 1980 to 2079, by the full Gregorian rule.
 fn date_book(d: &Date) -> bool {
-    (1..=31).contains(&d.day) && (1..=12).contains(&d.month)
+    let year = u32::from(d.year) + if d.year < 80 { 2000 } else { 1900 };
+    let leap = year % 4 == 0 && (year % 100 != 0 || year % 400 == 0);
+    let days = match d.month {
+        4 | 6 | 9 | 11 => 30,
+        2 if leap => 29,
+        2 => 28,
+        1..=12 => 31,
+        _ => 0,
+    };
+    (1..=days).contains(&d.day)
+}
+
+/// An angle that is written by whole minutes and is not past the limit.
+fn coord_book(c: &RawCoord, limit: u32) -> bool {
+    let thousandths = u32::from(c.minute_thousandths);
+    thousandths < 60000 && u32::from(c.degrees) * 60000 + thousandths <= limit * 60000
 }
 
 fn position_book(p: &RawPosition) -> bool {
-    p.lat.0.minute_thousandths < 60000 && p.lon.0.minute_thousandths < 60000
+    coord_book(&p.lat.0, 90) && coord_book(&p.lon.0, 180)
 }
 
 /// With no names asked for, every name of the table in its order.

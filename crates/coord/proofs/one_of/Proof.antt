@@ -1,12 +1,8 @@
-use Rattle.text.specs.Prelude.{ℕ, _≡_, _=?_, _∨?_}
+use Rattle.text.specs.Prelude.{_∨?_}
 use Rattle.text.proofs.Prelude.{needs, refl, first, second, yes=, no=}
-use lib.Dec.{eqb}
+use Rattle.coord.proofs.Tests.{same}
 use Rattle.coord.proofs.one_of.Statement.{statement}
 use Rattle.coord.proofs.one_of.Tie as tie
-
-same : {a b c d : ℕ} → a ≡ b → c ≡ d → eqb a c ≡ (b =? d)
-unfolding _=?_
-same p q = rw (p, q)
 
 pub one-of-spec : {M : Type 1} → statement M
 unfolding _∨?_
