@@ -59,3 +59,27 @@ pub fn damaged(size: usize) -> Log {
         _ => "HF".into(),
     })
 }
+
+/// The letters of all makers, and three that none has.
+const LETTERS: &[u8] = b"ICDEFGAMLVNKPRHSTZXBY";
+
+/// The triples of all makers, and three that none has.
+const TRIPLES: [&str; 26] = [
+    "ACT", "CAM", "CNI", "DSX", "EWA", "FIL", "FLA", "FLY", "GCS", "IMI", "LGS", "LXN", "LXV", "NAV", "NTE", "NKL",
+    "PES", "PFE", "PRT", "SCH", "SDI", "TRI", "ZAN", "XXX", "XCS", "LXX",
+];
+
+/// A lines of the three forms, half of them with a text behind the id. The makers come in no order that a processor
+/// could learn.
+pub fn recorders(size: usize) -> Log {
+    grown("A lines", "", size, |i| {
+        let n = (i as u64).wrapping_mul(0x9e37_79b9_7f4a_7c15) as usize >> 20;
+        let (letter, triple) = (LETTERS[n % LETTERS.len()] as char, TRIPLES[n % TRIPLES.len()]);
+        let rest = ["", "FLIGHT:1"][n / 64 % 2];
+        match n / 128 % 3 {
+            0 => format!("A{letter}{:05}{rest}", n % 100000),
+            1 => format!("A{triple}{:05}{rest}", n % 100000),
+            _ => format!("A{triple}{}{rest}", ["ABC", "X7Q"][n / 512 % 2]),
+        }
+    })
+}

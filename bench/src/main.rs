@@ -39,7 +39,7 @@ fn best(log: &Log, rounds: usize, ours: Work, rust: Work) -> (f64, f64) {
 fn beside_the_rust() {
     println!("1 MB, best of 100 rounds, ns a line");
     println!("{:<8} {:<8} {:>7} {:>7} {:>6}", "log", "work", "ours", "rust", "ratio");
-    for make in [logs::fixes, logs::mixed, logs::damaged] {
+    for make in [logs::fixes, logs::mixed, logs::damaged, logs::recorders] {
         let log = make(1 << 20);
         for (name, ours, rust) in WORKS {
             let (x, y) = best(&log, 100, ours, rust);
@@ -54,7 +54,7 @@ fn growth() {
     println!();
     println!("this reader, best of 40 rounds, ns a line by the log's size, and the largest over the least");
     println!("{:<8} {:<8} {:>7} {:>7} {:>7} {:>7} {:>7}", "log", "work", "64 KB", "512 KB", "4 MB", "16 MB", "spread");
-    for make in [logs::fixes, logs::mixed, logs::damaged] {
+    for make in [logs::fixes, logs::mixed, logs::damaged, logs::recorders] {
         let sizes = [1 << 16, 1 << 19, 1 << 22, 1 << 24].map(make);
         for (name, ours, _) in WORKS {
             let mut took = [f64::MAX; 4];

@@ -1,7 +1,10 @@
-// Makers of recorders and their codes, as src/util/manufacturer.rs has them. The readers list the makers in the order
-// of the definition `known`, by which their last arm is proved.
+// Makers of recorders and their codes, as src/util/manufacturer.rs has them. The codes stand in one list, `listed`: the
+// readers search it from the top, in the order of the definition `known`, and the writers ask it at the maker's place.
 ghost use mathlib.Core.Path.{_≡_};
-ghost use Rattle.manufacturer.specs.Maker.{letterOf, tripleOf, letterMaker, tripleMaker, tripleNumber};
+ghost use Prim.Native.Nat.{ℕ, _<_};
+ghost use lib.ListN.{getD};
+ghost use Rattle.text.specs.Res.{pick, _=?_};
+ghost use Rattle.manufacturer.specs.Maker.{letterOf, tripleOf, known, letterMaker, tripleMaker, tripleNumber};
 use Manufacturer::*;
 use MaybeLetter::Letter;
 use MaybeTriple::Triple;
@@ -46,7 +49,50 @@ pub enum MaybeTriple {
     Triple(Mnemonic),
 }
 
-// Three bytes as one number, so that one `match` decides on all of them.
+// A row of the list: a maker's letter, or NONE, its triple, and the maker.
+struct Row(u8, Mnemonic, Manufacturer);
+
+// Stands in a row for the letter of a maker that has none. It is a byte, and no `MaybeLetter`, so that a search
+// compares one byte a row: of such a search the compiler makes a table.
+const NONE: u8 = 0;
+
+// How many rows the list has.
+const KNOWN: usize = 23;
+
+// The list of makers, a row a place. No code of a maker stands anywhere else.
+fn listed(place: usize) -> Row
+    requires { ⌜ place < 23 ⌝ }
+    ensures { λ r. ⌜ (r .2 ≡ getD known place Manufacturer.Zander) × (MaybeTriple.Triple (r .1) ≡ tripleOf (r .2))
+        × (pick (r .0 =? 0) MaybeLetter.Missing (MaybeLetter.Letter (r .0)) ≡ letterOf (r .2)) ⌝ }
+{
+    match place {
+        0 => Row(b'I', Mnemonic(b'A', b'C', b'T'), Aircotec),
+        1 => Row(b'C', Mnemonic(b'C', b'A', b'M'), CambridgeAeroInstruments),
+        2 => Row(NONE, Mnemonic(b'C', b'N', b'I'), ClearNavInstruments),
+        3 => Row(b'D', Mnemonic(b'D', b'S', b'X'), DataSwan),
+        4 => Row(b'E', Mnemonic(b'E', b'W', b'A'), EwAvionics),
+        5 => Row(b'F', Mnemonic(b'F', b'I', b'L'), Filser),
+        6 => Row(b'G', Mnemonic(b'F', b'L', b'A'), Flarm),
+        7 => Row(NONE, Mnemonic(b'F', b'L', b'Y'), Flytech),
+        8 => Row(b'A', Mnemonic(b'G', b'C', b'S'), Garrecht),
+        9 => Row(b'M', Mnemonic(b'I', b'M', b'I'), ImiGlidingEquipment),
+        10 => Row(NONE, Mnemonic(b'L', b'G', b'S'), Logstream),
+        11 => Row(b'L', Mnemonic(b'L', b'X', b'N'), LxNavigation),
+        12 => Row(b'V', Mnemonic(b'L', b'X', b'V'), LxNav),
+        13 => Row(NONE, Mnemonic(b'N', b'A', b'V'), Naviter),
+        14 => Row(b'N', Mnemonic(b'N', b'T', b'E'), NewTechnologies),
+        15 => Row(b'K', Mnemonic(b'N', b'K', b'L'), NielsenKellerman),
+        16 => Row(b'P', Mnemonic(b'P', b'E', b'S'), Peschges),
+        17 => Row(NONE, Mnemonic(b'P', b'F', b'E'), PressFinishElectronics),
+        18 => Row(b'R', Mnemonic(b'P', b'R', b'T'), PrintTechnik),
+        19 => Row(b'H', Mnemonic(b'S', b'C', b'H'), Scheffel),
+        20 => Row(b'S', Mnemonic(b'S', b'D', b'I'), StreamlineDataInstruments),
+        21 => Row(b'T', Mnemonic(b'T', b'R', b'I'), TriadisEngineering),
+        _ => Row(b'Z', Mnemonic(b'Z', b'A', b'N'), Zander),
+    }
+}
+
+// Three bytes as one number, so that one comparison decides on all of them.
 fn number(triple: Mnemonic) -> u32
     ensures { λ r. ⌜ r ≡ tripleNumber triple ⌝ }
 {
@@ -58,58 +104,66 @@ impl Manufacturer {
     pub fn parse_single_char(letter: u8) -> Manufacturer
         ensures { λ r. ⌜ r ≡ letterMaker letter ⌝ }
     {
-        match letter {
-            b'I' => Aircotec,
-            b'C' => CambridgeAeroInstruments,
-            b'D' => DataSwan,
-            b'E' => EwAvionics,
-            b'F' => Filser,
-            b'G' => Flarm,
-            b'A' => Garrecht,
-            b'M' => ImiGlidingEquipment,
-            b'L' => LxNavigation,
-            b'V' => LxNav,
-            b'N' => NewTechnologies,
-            b'K' => NielsenKellerman,
-            b'P' => Peschges,
-            b'R' => PrintTechnik,
-            b'H' => Scheffel,
-            b'S' => StreamlineDataInstruments,
-            b'T' => TriadisEngineering,
-            b'Z' => Zander,
-            unknown => UnknownSingle(unknown),
+        let mut place = 0;
+        while place < KNOWN {
+            let row = listed(place);
+            if row.0 == letter && letter != NONE {
+                return row.2;
+            }
+            place += 1;
         }
+        UnknownSingle(letter)
     }
 
     // The maker of a triple; a triple that no maker has is carried.
     pub fn parse_triple_char(triple: Mnemonic) -> Manufacturer
         ensures { λ r. ⌜ r ≡ tripleMaker triple ⌝ }
     {
-        match number(triple) {
-            0x414354 => Aircotec, // ACT
-            0x43414d => CambridgeAeroInstruments, // CAM
-            0x434e49 => ClearNavInstruments, // CNI
-            0x445358 => DataSwan, // DSX
-            0x455741 => EwAvionics, // EWA
-            0x46494c => Filser, // FIL
-            0x464c41 => Flarm, // FLA
-            0x464c59 => Flytech, // FLY
-            0x474353 => Garrecht, // GCS
-            0x494d49 => ImiGlidingEquipment, // IMI
-            0x4c4753 => Logstream, // LGS
-            0x4c584e => LxNavigation, // LXN
-            0x4c5856 => LxNav, // LXV
-            0x4e4156 => Naviter, // NAV
-            0x4e5445 => NewTechnologies, // NTE
-            0x4e4b4c => NielsenKellerman, // NKL
-            0x504553 => Peschges, // PES
-            0x504645 => PressFinishElectronics, // PFE
-            0x505254 => PrintTechnik, // PRT
-            0x534348 => Scheffel, // SCH
-            0x534449 => StreamlineDataInstruments, // SDI
-            0x545249 => TriadisEngineering, // TRI
-            0x5a414e => Zander, // ZAN
-            _ => UnknownTriple(triple),
+        let wanted = number(triple);
+        let mut place = 0;
+        while place < KNOWN {
+            let row = listed(place);
+            let own = row.1;
+            if number(own) == wanted {
+                return row.2;
+            }
+            place += 1;
+        }
+        UnknownTriple(triple)
+    }
+
+    // The place in the list of a maker that is not unknown.
+    fn place(self) -> usize
+        requires { ⌜ ((l : ℕ) → self ≡ Manufacturer.UnknownSingle l → ⊥)
+            × ((t : Mnemonic) → self ≡ Manufacturer.UnknownTriple t → ⊥) ⌝ }
+        ensures { λ r. ⌜ (r < 23) × (self ≡ getD known r Manufacturer.Zander) ⌝ }
+    {
+        match self {
+            Aircotec => 0,
+            CambridgeAeroInstruments => 1,
+            ClearNavInstruments => 2,
+            DataSwan => 3,
+            EwAvionics => 4,
+            Filser => 5,
+            Flarm => 6,
+            Flytech => 7,
+            Garrecht => 8,
+            ImiGlidingEquipment => 9,
+            Logstream => 10,
+            LxNavigation => 11,
+            LxNav => 12,
+            Naviter => 13,
+            NewTechnologies => 14,
+            NielsenKellerman => 15,
+            Peschges => 16,
+            PressFinishElectronics => 17,
+            PrintTechnik => 18,
+            Scheffel => 19,
+            StreamlineDataInstruments => 20,
+            TriadisEngineering => 21,
+            Zander => 22,
+            UnknownSingle(_) => KNOWN,
+            UnknownTriple(_) => KNOWN,
         }
     }
 
@@ -118,31 +172,15 @@ impl Manufacturer {
         ensures { λ r. ⌜ r ≡ letterOf self ⌝ }
     {
         match self {
-            Aircotec => Letter(b'I'),
-            CambridgeAeroInstruments => Letter(b'C'),
-            ClearNavInstruments => MaybeLetter::Missing,
-            DataSwan => Letter(b'D'),
-            EwAvionics => Letter(b'E'),
-            Filser => Letter(b'F'),
-            Flarm => Letter(b'G'),
-            Flytech => MaybeLetter::Missing,
-            Garrecht => Letter(b'A'),
-            ImiGlidingEquipment => Letter(b'M'),
-            Logstream => MaybeLetter::Missing,
-            LxNavigation => Letter(b'L'),
-            LxNav => Letter(b'V'),
-            Naviter => MaybeLetter::Missing,
-            NewTechnologies => Letter(b'N'),
-            NielsenKellerman => Letter(b'K'),
-            Peschges => Letter(b'P'),
-            PressFinishElectronics => MaybeLetter::Missing,
-            PrintTechnik => Letter(b'R'),
-            Scheffel => Letter(b'H'),
-            StreamlineDataInstruments => Letter(b'S'),
-            TriadisEngineering => Letter(b'T'),
-            Zander => Letter(b'Z'),
-            UnknownSingle(letter) => Letter(letter),
+            UnknownSingle(own) => Letter(own),
             UnknownTriple(_) => MaybeLetter::Missing,
+            _ => {
+                let row = listed(self.place());
+                if row.0 == NONE {
+                    return MaybeLetter::Missing;
+                }
+                Letter(row.0)
+            }
         }
     }
 
@@ -151,31 +189,13 @@ impl Manufacturer {
         ensures { λ r. ⌜ r ≡ tripleOf self ⌝ }
     {
         match self {
-            Aircotec => Triple(Mnemonic(b'A', b'C', b'T')),
-            CambridgeAeroInstruments => Triple(Mnemonic(b'C', b'A', b'M')),
-            ClearNavInstruments => Triple(Mnemonic(b'C', b'N', b'I')),
-            DataSwan => Triple(Mnemonic(b'D', b'S', b'X')),
-            EwAvionics => Triple(Mnemonic(b'E', b'W', b'A')),
-            Filser => Triple(Mnemonic(b'F', b'I', b'L')),
-            Flarm => Triple(Mnemonic(b'F', b'L', b'A')),
-            Flytech => Triple(Mnemonic(b'F', b'L', b'Y')),
-            Garrecht => Triple(Mnemonic(b'G', b'C', b'S')),
-            ImiGlidingEquipment => Triple(Mnemonic(b'I', b'M', b'I')),
-            Logstream => Triple(Mnemonic(b'L', b'G', b'S')),
-            LxNavigation => Triple(Mnemonic(b'L', b'X', b'N')),
-            LxNav => Triple(Mnemonic(b'L', b'X', b'V')),
-            Naviter => Triple(Mnemonic(b'N', b'A', b'V')),
-            NewTechnologies => Triple(Mnemonic(b'N', b'T', b'E')),
-            NielsenKellerman => Triple(Mnemonic(b'N', b'K', b'L')),
-            Peschges => Triple(Mnemonic(b'P', b'E', b'S')),
-            PressFinishElectronics => Triple(Mnemonic(b'P', b'F', b'E')),
-            PrintTechnik => Triple(Mnemonic(b'P', b'R', b'T')),
-            Scheffel => Triple(Mnemonic(b'S', b'C', b'H')),
-            StreamlineDataInstruments => Triple(Mnemonic(b'S', b'D', b'I')),
-            TriadisEngineering => Triple(Mnemonic(b'T', b'R', b'I')),
-            Zander => Triple(Mnemonic(b'Z', b'A', b'N')),
             UnknownSingle(_) => MaybeTriple::Missing,
-            UnknownTriple(triple) => Triple(triple),
+            UnknownTriple(own) => Triple(own),
+            _ => {
+                let row = listed(self.place());
+                let own = row.1;
+                Triple(own)
+            }
         }
     }
 }
