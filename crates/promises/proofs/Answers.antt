@@ -5,6 +5,7 @@ use Rattle.text.specs.declared.refusal.Refusal.{Refusal}
 use Rattle.text.proofs.Answers.{made, told, u8-undone, u16-undone, i8-undone, i16-undone}
 use Rattle.part.proofs.Answers.{found-undone, shows-one}
 use Rattle.print.proofs.Answers.{prints-one, wrote-one}
+use Rattle.three.proofs.Answers.{three-undone}
 use Rattle.time.proofs.Answers.{time-undone}
 use Rattle.date.proofs.Answers.{date-undone}
 use Rattle.coord.proofs.Answers.{latitude-undone, longitude-undone}
@@ -32,6 +33,7 @@ determined = record {
   i8 = tells _ _ _ i8-undone;
   i16 = tells _ _ _ i16-undone;
   found = tells _ _ _ found-undone;
+  three = tells _ _ _ three-undone;
   time = tells _ _ _ time-undone;
   date = tells _ _ _ date-undone;
   latitude = tells _ _ _ latitude-undone;

@@ -9,6 +9,7 @@ use Rattle.part.specs.declared.Part.{Part}
 use Rattle.put.specs.Put.{Wrote}
 use Rattle.print.specs.Print.{Prints}
 use Rattle.print.specs.declared.printed.Printed.{Printed}
+use Rattle.three.specs.Three.{threeRes}
 use Rattle.time.specs.Time.{timeRes}
 use Rattle.date.specs.Date.{dateRes}
 use Rattle.coord.specs.Coord.{latitudeRes, longitudeRes}
@@ -37,6 +38,7 @@ pub record Determined : Type 1 where
   pub i8 : Tells i8Res
   pub i16 : Tells i16Res
   pub found : Tells foundRes
+  pub three : Tells threeRes
   pub time : Tells timeRes
   pub date : Tells dateRes
   pub latitude : Tells latitudeRes
