@@ -10,7 +10,7 @@ use Rattle.log.specs.Fold.{Carried, fresh}
 use Rattle.log.proofs.Cuts.{cut-viewed}
 use Rattle.log.proofs.Reached.{Reached, few, line, less-left}
 use Rattle.held.specs.declared.tables.Tables.{Tables}
-use Rattle.walk.specs.Cursor.{past}
+use Rattle.cursor.specs.Cursor.{past}
 use Rattle.walk.specs.Walk.{readingOf, stepOf}
 use Rattle.walk.specs.Readings.{Line-read, reader}
 use Rattle.walk.specs.declared.{Walk.Walk, Step.Step}

@@ -6,7 +6,7 @@ use Rattle.log.specs.Pieces.{joined, Whole, fedAll, textsAll}
 use Rattle.log.proofs.Pieces.{in-pieces as pieces, place-is}
 use Rattle.log.proofs.Reached as reached
 use Rattle.held.specs.declared.tables.Tables.{Tables}
-use Rattle.walk.specs.Cursor.{start}
+use Rattle.cursor.specs.Cursor.{start}
 use Rattle.walk.specs.Walk as walk
 use Rattle.walk.specs.Readings.{reader}
 use Rattle.trailer_text.specs.Trailer.{nothing, countStep}

@@ -7,11 +7,11 @@ ghost use Rattle.put.specs.Put.{Wrote};
 ghost use Rattle.records.specs.Record.{readingRes};
 ghost use Rattle.products.specs.Product.{productLine, closing};
 ghost use Rattle.products.specs.Feed.{atFirst, isReady, FedOf, Feeds};
+use cursor::Cursor;
 use held::tables::Tables;
 use records::Reading;
 use trailer_text::Trailer;
 use walk::Walk;
-use walk::cursor::Cursor;
 use walk::turn::read_at;
 
 // What is asked of a log.

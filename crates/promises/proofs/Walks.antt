@@ -10,10 +10,11 @@ use Rattle.log.proofs.Ends.{by-test}
 use Rattle.log.proofs.Cuts.{read-past, read-line, next-gt, next-le, cut-viewed}
 use Rattle.held.specs.Tables.{noTables, tablesAfter}
 use Rattle.held.specs.declared.tables.Tables.{Tables}
-use Rattle.walk.specs.Cursor.{start, past, nextOf}
+use Rattle.cursor.specs.Cursor.{start, past, nextOf}
 use Rattle.walk.specs.Walk.{fresh, stepTo, stepOf}
 use Rattle.walk.specs.Readings.{reader, readBy, walked}
-use Rattle.walk.specs.declared.{cursor.Cursor.Cursor, Walk.Walk, Taken.the-variants.Done}
+use Rattle.cursor.specs.declared.Cursor.{Cursor}
+use Rattle.walk.specs.declared.{Walk.Walk, Taken.the-variants.Done}
 use Rattle.walk.proofs.Laws.{viewed, step-on}
 use Rattle.reader.specs.Reader.{readerAt, handedBy, handedOut}
 use Rattle.listing_text.specs.Listing.{listed, listingText}

@@ -2,7 +2,7 @@
 use Rattle.text.specs.Prelude.{ℕ, _≤_, _≡_, List, length, take, RefT, now, largest}
 use Rattle.log.specs.Log.{readings}
 use Rattle.held.specs.Tables.{noTables}
-use Rattle.walk.specs.Cursor.{start}
+use Rattle.cursor.specs.Cursor.{start}
 use Rattle.walk.specs.Walk.{fresh, stepOf}
 use Rattle.walk.specs.Readings.{reader, walked}
 use Rattle.walk.specs.declared.{Walk.Walk, Taken.the-variants.Done}

@@ -6,10 +6,10 @@ use Rattle.log.specs.Line.{cutAt}
 use Rattle.records.specs.Record.{readLine}
 use Rattle.held.specs.Tables.{tablesAfter}
 use Rattle.held.specs.declared.tables.Tables.{Tables}
-use Rattle.walk.specs.Cursor.{nextOf}
+use Rattle.cursor.specs.Cursor.{nextOf}
 use Rattle.walk.specs.Readings.{Line-read}
-use Rattle.walk.specs.declared.{cursor.Cursor.Cursor, cursor.Next.Next}
-use Rattle.walk.specs.declared.cursor.Next.the-variants.{Line, Done}
+use Rattle.cursor.specs.declared.{Cursor.Cursor, Next.Next}
+use Rattle.cursor.specs.declared.Next.the-variants.{Line, Done}
 use Rattle.reader.specs.declared.LogReader.{LogReader}
 
 -- A reader of the lent log at a cursor of the walk.

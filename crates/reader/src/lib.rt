@@ -2,12 +2,12 @@
 ghost use mathlib.Core.Path.{_≡_};
 ghost use Rattle.part.specs.Part.{Shows};
 ghost use Rattle.held.specs.Tables.{tablesAfter};
-ghost use Rattle.walk.specs.Cursor.{start, nextOf};
+ghost use Rattle.cursor.specs.Cursor.{start, nextOf};
 ghost use Rattle.reader.specs.Reader.{readerAt, cursorOf, partAt, textAt};
+use cursor::Cursor;
+use cursor::Next;
 use held::tables::Tables;
 use log::line_at;
-use walk::cursor::Cursor;
-use walk::cursor::Next;
 
 pub struct LogReader<'a> {
     pub log: &'a [u8],

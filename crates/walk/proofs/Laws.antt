@@ -12,9 +12,10 @@ use Rattle.log.specs.declared.Cut.{Cut}
 use Rattle.log.proofs.Cuts.{cut-inside}
 use Rattle.held.specs.Tables.{tablesAfter}
 use Rattle.held.specs.declared.tables.Tables.{Tables}
-use Rattle.walk.specs.Cursor.{past, nextOf}
+use Rattle.cursor.specs.Cursor.{past, nextOf}
 use Rattle.walk.specs.Walk.{readingOf, stepTo, stepOf}
-use Rattle.walk.specs.declared.{cursor.Cursor.Cursor, cursor.Next.Next, Walk.Walk, Step.Step}
+use Rattle.cursor.specs.declared.{Cursor.Cursor, Next.Next}
+use Rattle.walk.specs.declared.{Walk.Walk, Step.Step}
 use Rattle.walk.specs.declared.Taken.the-variants.{Line, Done}
 
 -- the answer that is viewed as m

@@ -1,4 +1,3 @@
-pub mod Cursor
 pub mod Walk
 pub mod Turn
 pub mod Readings

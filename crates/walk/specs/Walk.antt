@@ -5,8 +5,9 @@ use Rattle.records.specs.Record.{readLine}
 use Rattle.records.specs.declared.{Record.Record, Reading.Reading}
 use Rattle.records.specs.declared.Reading.the-variants.{Accepted, Refused}
 use Rattle.held.specs.Tables.{noTables, tablesAfter}
-use Rattle.walk.specs.Cursor.{start, nextOf}
-use Rattle.walk.specs.declared.{cursor.Next.Next, Walk.Walk, Step.Step}
+use Rattle.cursor.specs.Cursor.{start, nextOf}
+use Rattle.cursor.specs.declared.Next.{Next}
+use Rattle.walk.specs.declared.{Walk.Walk, Step.Step}
 use Rattle.walk.specs.declared.Taken.the-variants.{Line, Done}
 
 -- Place 0, line number 0, and no table of either letter.

@@ -1,14 +1,13 @@
 // The walk over a log, by value: place, line number, and the tables of definitions in force.
-pub mod cursor;
 pub mod turn;
 
 ghost use mathlib.Core.Path.{_≡_};
 ghost use Rattle.part.specs.Part.{foundRes, shown, Shows};
 ghost use Rattle.held.specs.Held.{lookUp};
 ghost use Rattle.walk.specs.Walk.{fresh, stepOf};
-use crate::cursor::Cursor;
-use crate::cursor::Next;
 use b_record::BRecord;
+use cursor::Cursor;
+use cursor::Next;
 use field::Mnemonic;
 use held::Held;
 use held::tables::Tables;

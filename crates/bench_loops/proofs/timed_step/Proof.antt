@@ -2,7 +2,7 @@ use Rattle.text.specs.Prelude.{_-_, _≤_, length, largest}
 use Rattle.text.proofs.Prelude.{needs, arith}
 use Rattle.log.specs.Fold.{fresh}
 use Rattle.log.proofs.Reached.{Reached, at-start, product}
-use Rattle.walk.specs.Cursor.{start}
+use Rattle.cursor.specs.Cursor.{start}
 use Rattle.walk.specs.Walk as walk
 use Rattle.walk.specs.Readings.{reader}
 use Rattle.bench_loops.specs.Timed.{summed, readStep, readSum}

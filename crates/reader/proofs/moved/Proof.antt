@@ -31,9 +31,9 @@ use denote.Triple.Spec.{Meets, tripleOf}
 use denote.Triple.Table.{entered}
 use denote.Triple.Walked.{says, Stays, stay-none, walkOf, goes-none, Walks, ends-at, walked, walk-meets}
 use denote.Exit.{yes}
-use Rattle.walk.specs.declared.cursor.Cursor.{Cursor}
-use Rattle.walk.proofs.cursor.Cursor as U
-use Rattle.walk.proofs.cursor.Cursor.Laws as U′
+use Rattle.cursor.specs.declared.Cursor.{Cursor}
+use Rattle.cursor.proofs.Cursor as U
+use Rattle.cursor.proofs.Cursor.Laws as U′
 use Rattle.reader.specs.Reader.{readerAt}
 use Rattle.reader.specs.declared.LogReader.{LogReader}
 use Rattle.reader.proofs.Apart.{B, D, L, whole-val, Own, OwnLog, log-of}

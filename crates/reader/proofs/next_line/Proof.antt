@@ -35,10 +35,10 @@ use denote.Triple.Table.{entered, cited}
 use denote.Triple.Walked.{says, Stays, stay-none, walkOf, goes-none, Walks, ends-at, walked, walk-meets}
 use denote.Exit.{yes}
 use denote.Triple.Clauses.{ensured, lasts}
-use Rattle.walk.specs.Cursor.{nextOf}
-use Rattle.walk.specs.declared.cursor.Next.{Next}
-use Rattle.walk.proofs.cursor.Next as S
-use Rattle.walk.proofs.cursor.Next.Laws as S′
+use Rattle.cursor.specs.Cursor.{nextOf}
+use Rattle.cursor.specs.declared.Next.{Next}
+use Rattle.cursor.proofs.Next as S
+use Rattle.cursor.proofs.Next.Laws as S′
 use Rattle.reader.specs.Reader.{cursorOf}
 use Rattle.reader.specs.declared.LogReader.{LogReader}
 use Rattle.reader.proofs.Apart.{B, D, L, whole-val, log-val, Own, OwnFields, fields}

@@ -33,7 +33,7 @@ use denote.Triple.Spec.{Meets, tripleOf}
 use denote.Triple.Table.{entered}
 use denote.Triple.Walked.{says, Stays, stay-none-slice, walkOf, goes-none-slice, Walks, ends-at, walked, walk-meets}
 use denote.Exit.{yes}
-use Rattle.walk.specs.Cursor.{start}
+use Rattle.cursor.specs.Cursor.{start}
 use Rattle.reader.specs.declared.LogReader.{LogReader}
 use Rattle.reader.proofs.LogReader as T
 use Rattle.reader.proofs.LogReader.Laws as T′

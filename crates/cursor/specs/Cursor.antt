@@ -2,8 +2,8 @@
 use Rattle.text.specs.Prelude.{ℕ, _+_, List, length, pick, _≤?_, _∧?_, largest}
 use Rattle.log.specs.Line.{cutAt}
 use Rattle.log.specs.declared.Cut.{Cut}
-use Rattle.walk.specs.declared.{cursor.Cursor.Cursor, cursor.Next.Next}
-use Rattle.walk.specs.declared.cursor.Next.the-variants.{Line, Done}
+use Rattle.cursor.specs.declared.{Cursor.Cursor, Next.Next}
+use Rattle.cursor.specs.declared.Next.the-variants.{Line, Done}
 
 -- Fresh walks start at place 0 and line number 0.
 unfoldable pub start : Cursor

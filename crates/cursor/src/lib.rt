@@ -1,7 +1,7 @@
 // A place in a log and the number of lines read so far. It is small, so a loop over a log carries it and keeps the
 // table apart.
 ghost use mathlib.Core.Path.{_≡_};
-ghost use Rattle.walk.specs.Cursor.{start, nextOf};
+ghost use Rattle.cursor.specs.Cursor.{start, nextOf};
 use log::Cut;
 use log::cut_at;
 

@@ -1,9 +1,9 @@
 use Rattle.text.proofs.Prelude.{needs, arith, refl, ap, first, second, yes≤, no≤, holds, fails, and}
 use Rattle.log.specs.declared.Cut.{Cut}
-use Rattle.walk.specs.Cursor.{past, nextOf}
-use Rattle.walk.specs.declared.cursor.Next.the-variants.{Line}
-use Rattle.walk.proofs.cursor.Cursor.next.Statement.{statement}
-use Rattle.walk.proofs.cursor.Cursor.next.Tie as tie
+use Rattle.cursor.specs.Cursor.{past, nextOf}
+use Rattle.cursor.specs.declared.Next.the-variants.{Line}
+use Rattle.cursor.proofs.Cursor.next.Statement.{statement}
+use Rattle.cursor.proofs.Cursor.next.Tie as tie
 
 taken : tie.Need-returns
 unfolding nextOf past
