@@ -1,7 +1,9 @@
 -- The quick way: fields whose numbers are digits alone are read as their values.
-use Rattle.text.specs.Prelude.{ℕ, _+_, _-_, _≤_, _<_, _≡_, true, List, length, Res, ok, bind, byte, cut, columns}
+use Rattle.text.specs.Prelude.{ℕ, _+_, _-_, _≤_, _<_, _≡_, Bool, true, false, List, length, Res, ok, bind, moved, guard}
+use Rattle.text.specs.Prelude.{_≤?_, _∧?_, placeOf, placed, movedBy, byte, cut, columns}
 use Rattle.text.specs.Prelude.{readNat, readInt, allDigits, valueFrom}
-use Rattle.text.proofs.Prelude.{arith, refl, ap, _∙_, length-drop, length-take, on, pass, yes=, both}
+use Rattle.text.proofs.Prelude.{arith, refl, sym, ap, _∙_, length-drop, length-take, on, found-in, pass, yes=, both}
+use Rattle.text.specs.declared.refusal.Refusal.the-variants.{OutOfRange}
 use mir.Syntax.{w16}
 use mir.Val.{toZ}
 use mir.Facts.{toZ-pos}
@@ -13,6 +15,7 @@ use Rattle.field.proofs.Digits.{cut-cut, byte-cut, cut-digits}
 use Rattle.field.proofs.Fields.{columns-of-ascii}
 use Rattle.three.specs.Three.{readThree}
 use Rattle.time.specs.Time.{timeOf, readTime}
+use Rattle.time.specs.declared.Time.{Time}
 use Rattle.coord.specs.Coord.{lettered, readCoord, latitude, longitude, latitudeIn, longitudeIn}
 use Rattle.coord.specs.Coord.{latitudeBy, longitudeBy}
 use Rattle.coord.specs.declared.{Compass.Compass, RawCoord.RawCoord, RawLatitude.RawLatitude, RawLongitude.RawLongitude}
@@ -102,12 +105,12 @@ two-digits-fit {a} {b} {s = s} d e h =
 nat-in : (a b c d : ℕ) {most v : ℕ} (s : List ℕ) →
     a + d ≤ b → Number (a + c) (a + d) most s v → ok v ≡ columns c d (readNat most) (cut a b s)
 unfolding columns
-nat-in a b c d s i n = rw (cut-cut a b c d s i) (nat-plain (n .digits) _ (n .fits))
+nat-in a b c d s i n = rw (cut-cut a b c d s i) (found-in c (nat-plain (n .digits) _ (n .fits)))
 
 -- and so is the height that the code casts it to
 int-at : {a b v : ℕ} {s : List ℕ} → Number a b 32767 s v → ok (toZ w16 v) ≡ columns a b (readInt 32767) s
 unfolding columns
-int-at {v} n = rw (toZ-pos w16 {n = v} (omega (arith, n .fits))) (int-plain (n .digits) _ (n .fits))
+int-at {a} {v} n = rw (toZ-pos w16 {n = v} (omega (arith, n .fits))) (found-in a (int-plain (n .digits) _ (n .fits)))
 
 -- ---- fields of such numbers
 
@@ -136,20 +139,33 @@ longitudeOf s = longitude (coordAt 15 3 180 East West s)
 -- they are its position
 pub both-at : (s : List ℕ) →
     readBoth (cut 7 24 s)
-    ≡ bind (latitudeOf s) (λ lat. bind (longitudeOf s) (λ lon. ok (record { lat = lat; lon = lon })))
+    ≡ bind (moved 0 (latitudeOf s)) (λ lat.
+    bind (moved 8 (longitudeOf s)) (λ lon. ok (record { lat = lat; lon = lon })))
 unfolding readBoth columns latitudeIn longitudeIn
 both-at s = rw (cut-cut 7 24 0 8 s (omega arith), cut-cut 7 24 8 17 s (omega arith))
+
+-- a time that is out of range has no place
+time-stands : (a h m t : ℕ) → moved a (timeOf h m t) ≡ timeOf h m t
+unfolding timeOf moved guard movedBy placed placeOf
+time-stands a h m t = guarded ((h ≤? 24) ∧? (m ≤? 60) ∧? (t ≤? 60))
+  where
+    guarded : (b : Bool) → moved {A = Time} a (guard b OutOfRange (ok (record { hours = h; minutes = m; seconds = t })))
+        ≡ guard b OutOfRange (ok (record { hours = h; minutes = m; seconds = t }))
+    guarded true = refl
+    guarded false = refl
 
 module _ (s : List ℕ) (line : (35 ≤ length s) × (isAscii s ≡ true)) where
   -- a time is read as its three numbers
   pub time-at : {h m t : ℕ} →
       Number 1 3 255 s h → Number 3 5 255 s m → Number 5 7 255 s t → timeOf h m t ≡ columns 1 7 readTime s
   unfolding columns sized readThree readTime
-  time-at h m t =
-      pass _ (yes= (cut-length 1 6 s (omega arith)))
+  time-at {h = hours} {m = minutes} {t = seconds} h m t =
+      sym (time-stands 1 hours minutes seconds)
+      ∙ ap (moved 1)
+      (pass _ (yes= (cut-length 1 6 s (omega arith)))
       (on _ (nat-in 1 7 0 2 s (omega arith) h)
       (on _ (nat-in 1 7 2 4 s (omega arith) m)
-      (on _ (nat-in 1 7 4 6 s (omega arith) t) refl)))
+      (on _ (nat-in 1 7 4 6 s (omega arith) t) refl))))
       ∙ columns-of-ascii 1 7 6 (readThree timeOf) s (line .1)
 
   -- a coordinate is read as its two numbers and its letter
@@ -168,7 +184,9 @@ module _ (s : List ℕ) (line : (35 ≤ length s) × (isAscii s ≡ true)) where
       ok (record { lat = lat; lon = lon }) ≡ columns 7 24 readPosition s
   unfolding columns sized readPosition
   position-at p q =
-      pass _ (yes= (cut-length 7 17 s (omega arith))) (rw (both-at s) (on _ p (on _ q refl)))
+      found-in 7
+      (pass _ (yes= (cut-length 7 17 s (omega arith)))
+      (rw (both-at s) (on _ (found-in 0 p) (on _ (found-in 8 q) refl))))
       ∙ columns-of-ascii 7 24 17 readBoth s (line .1)
 
 -- and the heights as their two numbers

@@ -1,7 +1,8 @@
 -- The quick way says No of plain digits: `readFix` refuses them.
-use Rattle.text.specs.Prelude.{ℕ, _+_, _<_, _≡_, Bool, true, false, List, Res, ok, no, bind, guard, byte, cut, columns}
+use Rattle.text.specs.Prelude.{ℕ, _+_, _<_, _≡_, Bool, true, false, List, Res, ok, no, bind, moved, guard, byte, cut}
+use Rattle.text.specs.Prelude.{columns}
 use Rattle.text.specs.Prelude.{readNat, readInt, readDigits}
-use Rattle.text.proofs.Prelude.{arith, refl, ap, off, pass, stop, second, yes≤, no≤}
+use Rattle.text.proofs.Prelude.{arith, refl, ap, off, refused-in, pass, stop, second, yes≤, no≤}
 use Rattle.text.specs.declared.refusal.Refusal.{Refusal}
 use Rattle.text.proofs.Reading.{Written, no-sign}
 use Rattle.field.specs.Field.{sized, asciiIn, ascii, field}
@@ -44,6 +45,10 @@ unfolding guard
 refuses-guard true n r = r
 refuses-guard false n r = refuses refl
 
+-- what is said of a part refuses as the part does
+refuses-moved : {A : Type 0} (a : ℕ) {m : Res A} → Refuses m → Refuses (moved a m)
+refuses-moved a r = refuses (refused-in a (r .refused) refl)
+
 -- ---- what the quick way says of a fix's reading
 
 -- the fix that it finds
@@ -78,13 +83,14 @@ module _ (a d limit : ℕ) (x y : Compass) (s : List ℕ) {v : ℕ} where
   degrees-over : Written (cut (a + 0) (a + d) s) v → 255 < v → Refuses (coordAt a d limit x y s)
   unfolding sized readCoord columns
   degrees-over w h =
-      refuses-guard _ _ (refuses-first _ (rw (cut-cut a (a + (d + 6)) 0 d s (omega arith)) (nat-over w h)))
+      refuses-guard _ _
+      (refuses-first _ (refuses-moved 0 (rw (cut-cut a (a + (d + 6)) 0 d s (omega arith)) (nat-over w h))))
 
   minutes-over : Written (cut (a + d) (a + (d + 5)) s) v → 65535 < v → Refuses (coordAt a d limit x y s)
   unfolding sized readCoord columns
   minutes-over w h =
       refuses-guard _ _ (refuses-later _ (λ _.
-      refuses-first _ (rw (cut-cut a (a + (d + 6)) d (d + 5) s (omega arith)) (nat-over w h))))
+      refuses-first _ (refuses-moved d (rw (cut-cut a (a + (d + 6)) d (d + 5) s (omega arith)) (nat-over w h)))))
 
 -- ---- a fix is refused by each of its fields
 
@@ -95,13 +101,14 @@ module _ (s : List ℕ) where
 
   no-position : Refuses (readBoth (cut 7 24 s)) → Refuses (readFix s)
   unfolding readFix columns readPosition field sized ascii asciiIn
-  no-position r = refuses-later _ (λ _. refuses-first _ (refuses-guard _ _ (refuses-guard _ _ r)))
+  no-position r =
+      refuses-later _ (λ _. refuses-first _ (refuses-moved 7 (refuses-guard _ _ (refuses-guard _ _ r))))
 
   pub no-latitude : Refuses (latitudeOf s) → Refuses (readFix s)
-  no-latitude r = no-position (rw (both-at s) (refuses-first _ r))
+  no-latitude r = no-position (rw (both-at s) (refuses-first _ (refuses-moved 0 r)))
 
   pub no-longitude : Refuses (longitudeOf s) → Refuses (readFix s)
-  no-longitude r = no-position (rw (both-at s) (refuses-later _ (λ _. refuses-first _ r)))
+  no-longitude r = no-position (rw (both-at s) (refuses-later _ (λ _. refuses-first _ (refuses-moved 8 r))))
 
   pub no-letter : Refuses (validOf (byte 24 s)) → Refuses (readFix s)
   unfolding readFix
@@ -127,8 +134,8 @@ module _ (s : List ℕ) where
 
     pub pressure-over : Written (cut 25 30 s) v → 32767 < v → Refuses (readFix s)
     unfolding readHeights columns
-    pressure-over w h = no-heights (refuses-first _ (int-over w h))
+    pressure-over w h = no-heights (refuses-first _ (refuses-moved 25 (int-over w h)))
 
     pub gps-over : Written (cut 30 35 s) v → 32767 < v → Refuses (readFix s)
     unfolding readHeights columns
-    gps-over w h = no-heights (refuses-later _ (λ _. refuses-first _ (int-over w h)))
+    gps-over w h = no-heights (refuses-later _ (λ _. refuses-first _ (refuses-moved 30 (int-over w h))))

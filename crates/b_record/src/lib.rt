@@ -114,14 +114,14 @@ fn read_heights(line: &[u8]) -> HeightsRead
 {
     let pressure = match read_i16(&line[25..30]) {
         I16Read::Ok(by_pressure) => by_pressure,
-        I16Read::Refused(no_pressure) => return HeightsRead::Refused(no_pressure),
+        I16Read::Refused(no_pressure) => return HeightsRead::Refused(no_pressure.moved(25)),
     };
     match read_i16(&line[30..35]) {
         I16Read::Ok(by_gps) => HeightsRead::Ok(Heights {
             pressure: PressureAlt(pressure),
             gps: GpsAlt(by_gps),
         }),
-        I16Read::Refused(no_gps) => HeightsRead::Refused(no_gps),
+        I16Read::Refused(no_gps) => HeightsRead::Refused(no_gps.moved(30)),
     }
 }
 
@@ -140,11 +140,11 @@ impl BRecord {
         }
         let timestamp = match Time::parse_ascii(&line[1..7]) {
             TimeRead::Ok(time) => time,
-            TimeRead::Refused(no_time) => return BRead::Refused(no_time),
+            TimeRead::Refused(no_time) => return BRead::Refused(no_time.moved(1)),
         };
         let pos = match RawPosition::parse_ascii(&line[7..24]) {
             PositionRead::Ok(place) => place,
-            PositionRead::Refused(no_place) => return BRead::Refused(no_place),
+            PositionRead::Refused(no_place) => return BRead::Refused(no_place.moved(7)),
         };
         let fix_valid = match FixValid::from_letter(line[24]) {
             ValidRead::Ok(valid) => valid,

@@ -108,11 +108,11 @@ fn read_task(line: &[u8]) -> TaskRead
 {
     let id = match read_u16(&line[19..23]) {
         U16Read::Ok(number) => number,
-        U16Read::Refused(no_id) => return TaskRead::Refused(no_id),
+        U16Read::Refused(no_id) => return TaskRead::Refused(no_id.moved(19)),
     };
     match read_i8(&line[23..25]) {
         I8Read::Ok(count) => TaskRead::Ok(Task { id, count }),
-        I8Read::Refused(no_count) => TaskRead::Refused(no_count),
+        I8Read::Refused(no_count) => TaskRead::Refused(no_count.moved(23)),
     }
 }
 
@@ -150,15 +150,15 @@ impl CRecordDeclaration {
         }
         let date = match Date::parse(&line[1..7]) {
             DateRead::Ok(day) => day,
-            DateRead::Refused(no_date) => return DeclarationRead::Refused(no_date),
+            DateRead::Refused(no_date) => return DeclarationRead::Refused(no_date.moved(1)),
         };
         let time = match Time::parse(&line[7..13]) {
             TimeRead::Ok(moment) => moment,
-            TimeRead::Refused(no_time) => return DeclarationRead::Refused(no_time),
+            TimeRead::Refused(no_time) => return DeclarationRead::Refused(no_time.moved(7)),
         };
         let flight_date = match read_flight(&line[13..19]) {
             FlightRead::Ok(flight) => flight,
-            FlightRead::Refused(no_flight) => return DeclarationRead::Refused(no_flight),
+            FlightRead::Refused(no_flight) => return DeclarationRead::Refused(no_flight.moved(13)),
         };
         match read_task(line) {
             TaskRead::Ok(task) => DeclarationRead::Ok(CRecordDeclaration {

@@ -44,7 +44,7 @@ impl CRecordTurnpoint {
                 turnpoint_name: MaybePart::from_column(18, line),
                 position,
             }),
-            PositionRead::Refused(no_position) => TurnpointRead::Refused(no_position),
+            PositionRead::Refused(no_position) => TurnpointRead::Refused(no_position.moved(1)),
         }
     }
 

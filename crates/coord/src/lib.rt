@@ -162,12 +162,12 @@ impl RawCoord {
         }
         let degrees = match read_u8(&text[0..d]) {
             U8Read::Ok(whole) => whole,
-            U8Read::Refused(no_degrees) => return CoordRead::Refused(no_degrees),
+            U8Read::Refused(no_degrees) => return CoordRead::Refused(no_degrees.moved(0)),
         };
         let e = d + 5;
         let thousandths = match read_u16(&text[d..e]) {
             U16Read::Ok(small) => small,
-            U16Read::Refused(no_thousandths) => return CoordRead::Refused(no_thousandths),
+            U16Read::Refused(no_thousandths) => return CoordRead::Refused(no_thousandths.moved(d)),
         };
         RawCoord::lettered(limit, x, y, degrees, thousandths, text[e])
     }

@@ -53,11 +53,11 @@ impl Extension {
         }
         let start = match read_u8(&text[0..2]) {
             U8Read::Ok(from) => from,
-            U8Read::Refused(no_start) => return ExtensionRead::Refused(no_start),
+            U8Read::Refused(no_start) => return ExtensionRead::Refused(no_start.moved(0)),
         };
         let end = match read_u8(&text[2..4]) {
             U8Read::Ok(to) => to,
-            U8Read::Refused(no_end) => return ExtensionRead::Refused(no_end),
+            U8Read::Refused(no_end) => return ExtensionRead::Refused(no_end.moved(2)),
         };
         if end < start {
             return ExtensionRead::Refused(Refusal::BadExtension);

@@ -1,5 +1,6 @@
 -- A line of the program `fields`, and the whole text.
-use Rattle.text.specs.Prelude.{ℕ, code, List, [], _∷_, _++_, Res, ok, no, pick, _=?_, LF}
+use Rattle.text.specs.Prelude.{ℕ, code, List, [], _∷_, _++_, Res, ok, no, pick, placeOf, placed, _=?_, LF, padded}
+use Rattle.text.specs.declared.refusal.Refusal.{Refusal}
 use Rattle.records.specs.Record.{recordTable, recordBook, acceptedAs}
 use Rattle.records.specs.declared.Record.{Record}
 use Rattle.record_print.specs.Printed.{recordPiece}
@@ -25,10 +26,14 @@ seen r h names s =
     recordShown r (recordTable r s) h names s
     ++ (bookShown r ++ printedShown (recordPiece r (recordTable r s) s))
 
--- A refused line ends with its answer.
+-- `@` and the place of the byte to look at, where a refusal has one.
+unfoldable pub placeShown : Refusal → List ℕ
+placeShown n = placed (λ place. (code "@" ∷ []) ++ padded 1 place) [] (placeOf n)
+
+-- A refused line ends with its answer and the place.
 unfoldable pub fieldsShown : Res Record → Tables → List ℕ → List ℕ → List ℕ
 fieldsShown (ok r) h names s = seen r h names s
-fieldsShown (no n) h names s = []
+fieldsShown (no n) h names s = placeShown n
 
 -- Line n with the text s, answered m, at which h is in force: number, letter and answer as in the listing, then its
 -- fields.

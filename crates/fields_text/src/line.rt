@@ -2,16 +2,19 @@
 ghost use Rattle.put.specs.Put.{Wrote};
 ghost use Rattle.records.specs.Record.{readingRes};
 ghost use Rattle.record_print.specs.Printed.{recordPiece};
-ghost use Rattle.fields_text.specs.Line.{bookShown, printedShown, seen, fieldsShown, fieldsLine};
+ghost use Rattle.fields_text.specs.Line.{bookShown, printedShown, seen, placeShown, fieldsShown, fieldsLine};
 use held::tables::Tables;
 use listing_text::put_head;
 use piece_text::piece::show_byte;
+use print::number::put_nat;
 use put::put_byte;
 use record_print::put_record;
 use record_text::record::show_record;
 use records::Reading;
 use records::Record;
 use table::Table;
+use text::refusal::MaybePlace;
+use text::refusal::Refusal;
 
 // `y` or `n` for by the book; nothing of a line that is not read.
 fn put_book(buf: &mut [u8], at: usize, rec: Record) -> usize
@@ -54,7 +57,20 @@ fn put_seen(
     put_printed(buf, at_sign, rec, table, line)
 }
 
-// The fields of a reading; a refused line has none.
+// `@` and the place of an unreadable number, right behind its answer.
+fn put_place(buf: &mut [u8], at: usize, no: Refusal) -> usize
+    ensures { λ r. ⌜ Wrote (now (buf .entry)) at (placeShown no) (now (buf .exit)) r ⌝ }
+{
+    match no.place() {
+        MaybePlace::At(place) => {
+            let at_place = put_byte(buf, at, b'@');
+            put_nat(buf, at_place, place as u64, 1)
+        }
+        MaybePlace::Missing => at,
+    }
+}
+
+// The fields of a reading; of a refused line the place that its answer has.
 fn put_fields(
     buf: &mut [u8],
     at: usize,
@@ -68,7 +84,7 @@ fn put_fields(
 {
     match reading {
         Reading::Accepted(record) => put_seen(buf, at, record, held, names, line),
-        Reading::Refused(_) => at,
+        Reading::Refused(no) => put_place(buf, at, no),
     }
 }
 

@@ -110,6 +110,8 @@ pub fn tables() {
     line(b"I00");
     line(b"I01");
     line(b"I0x");
+    line(b"I033638FXA3940SIU41x3ENL");
+    line(b"I023638FXA9x40SIU");
     line(b"I013638FXA");
     line(b"J020810WDI1113WVE");
     line(b"I013636FXAx");

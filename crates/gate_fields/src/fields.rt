@@ -138,6 +138,7 @@ pub fn times() {
     time(b"006100");
     time(b"25xx00");
     time(b"10 530");
+    time(b"10156x");
 }
 
 // Dates.
@@ -164,6 +165,8 @@ pub fn coordinates() {
     longitude(b"18100000E");
     longitude(b"01102500E");
     longitude(b"25600000E");
+    longitude(b"01165536E");
+    longitude(b"0112x345E");
     longitude(b"01102500N");
     longitude(b"011025\xc3\xa9E");
 }

@@ -78,6 +78,10 @@ pub fn unsigned() {
     of_u8(b"++7");
     of_u8(b"255");
     of_u8(b"256");
+    of_u8(b"+x");
+    of_u8(b"-5");
+    of_u8(b"99x99");
+    of_u8(b"+99x99");
     of_u8(b"2 ");
     of_u8(b"/0");
     of_u8(b":0");
@@ -94,6 +98,9 @@ pub fn signed() {
     of_i8(b"-1");
     of_i8(b"-128");
     of_i8(b"-129");
+    of_i8(b"-x");
+    of_i8(b"--1");
+    of_i8(b"-999x");
     of_i8(b"127");
     of_i8(b"128");
     of_i16(b"");
@@ -110,12 +117,15 @@ pub fn signed() {
     of_i16(b"01\xc3\xa91");
 }
 
-// Ten thousand digits: leading zeros are fine, and nothing wraps.
+// Ten thousand digits: leading zeros are fine, nothing wraps, and a letter behind digits of too large a value is
+// pointed at.
 pub fn long() {
     let mut text = [b'0'; 10000];
     text[9999] = b'7';
     long_case(&text);
     text[0] = b'9';
+    long_case(&text);
+    text[9999] = b'x';
     long_case(&text);
 }
 

@@ -1,5 +1,6 @@
 // Writing a case and what came of it.
 use print::printed::Printed;
+use text::refusal::MaybePlace;
 use text::refusal::Refusal;
 
 // What is asked, and of which text.
@@ -10,9 +11,16 @@ pub fn asked(what: &[u8], text: &[u8]) {
     io::write_all(1, b"` ");
 }
 
-// The refusal's number.
+// The refusal's number, and `@` with its place where it has one.
 pub fn refused(no: Refusal) {
     io::print_decimal(1, no.number() as u64);
+    match no.place() {
+        MaybePlace::At(place) => {
+            io::write_all(1, b"@");
+            io::print_decimal(1, place as u64);
+        }
+        MaybePlace::Missing => {}
+    }
     io::write_all(1, b"\n");
 }
 

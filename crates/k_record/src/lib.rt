@@ -48,7 +48,7 @@ impl KRecord {
                 rest: Part::from_column(KRecord::BASE_LENGTH, line),
                 time,
             }),
-            TimeRead::Refused(no_time) => KRead::Refused(no_time),
+            TimeRead::Refused(no_time) => KRead::Refused(no_time.moved(1)),
         }
     }
 

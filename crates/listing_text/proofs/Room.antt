@@ -3,7 +3,7 @@ use Rattle.text.specs.Prelude.{ℕ, _+_, _≤_, _≡_, List, [], _∷_, length,
 use Rattle.text.specs.Prelude.{largest, signed}
 use Rattle.text.proofs.Prelude.{arith, refl, length-append, is≤}
 use Rattle.text.specs.declared.refusal.Refusal.{Refusal}
-use Rattle.text.proofs.Finds.{Finds, finds-ok, finds-bind, finds-guard, finds-pick}
+use Rattle.text.proofs.Finds.{Finds, finds-ok, finds-bind, finds-moved, finds-guard, finds-pick}
 use Rattle.text.proofs.RoundTrip.{int-columns}
 use Rattle.text.proofs.Lines.{cut-length}
 use Rattle.field.specs.Field.{asciiIn, ascii}
@@ -38,8 +38,8 @@ heights-columns : (s : List ℕ) → 35 ≤ length s
     → Finds (readHeights s) (λ h. length (signed 5 (h .pressure .0)) + length (signed 5 (h .gps .0)) ≡ 10)
 unfolding readHeights columns
 heights-columns s l =
-    finds-bind (int-columns 32767 5 (cut 25 30 s) (cut-length 25 5 s (omega arith))) (λ p ep.
-    finds-bind (int-columns 32767 5 (cut 30 35 s) (cut-length 30 5 s l)) (λ g eg.
+    finds-bind (finds-moved 25 (int-columns 32767 5 (cut 25 30 s) (cut-length 25 5 s (omega arith)))) (λ p ep.
+    finds-bind (finds-moved 30 (int-columns 32767 5 (cut 30 35 s) (cut-length 30 5 s l))) (λ g eg.
     finds-ok (omega arith)))
 
 -- a fix is short: each of its heights has a space in front
@@ -72,7 +72,7 @@ kind-short b s =
 refusal-le : (n : Refusal) → numberOf n ≤ 15
 refusal-le Refusal.Syntax = omega arith
 refusal-le Refusal.NotAscii = omega arith
-refusal-le Refusal.UnreadableNumber = omega arith
+refusal-le (Refusal.UnreadableNumber place) = omega arith
 refusal-le Refusal.OutOfRange = omega arith
 refusal-le Refusal.BadExtension = omega arith
 refusal-le Refusal.MissingExtension = omega arith

@@ -32,11 +32,11 @@ impl RawPosition {
         }
         let lat = match RawLatitude::parse_ascii(&text[0..8]) {
             LatitudeRead::Ok(north) => north,
-            LatitudeRead::Refused(no_lat) => return PositionRead::Refused(no_lat),
+            LatitudeRead::Refused(no_lat) => return PositionRead::Refused(no_lat.moved(0)),
         };
         match RawLongitude::parse_ascii(&text[8..17]) {
             LongitudeRead::Ok(lon) => PositionRead::Ok(RawPosition { lat, lon }),
-            LongitudeRead::Refused(no_lon) => PositionRead::Refused(no_lon),
+            LongitudeRead::Refused(no_lon) => PositionRead::Refused(no_lon.moved(8)),
         }
     }
 

@@ -4,7 +4,7 @@ use Rattle.text.proofs.Prelude.{arith, refl, sym, length-drop, drop-of-length-l
 use native.Mathlib.Nat.{add-sub-cancel-left}
 use native.Mathlib.Numerals.{add-one}
 use lib.ListN.{take-append-drop}
-use Rattle.text.proofs.Finds.{Finds, finds-guard}
+use Rattle.text.proofs.Finds.{Finds, finds-moved, finds-guard}
 use Rattle.field.specs.Field.{sized, asciiIn, ascii, field}
 
 -- w columns from a on, and all that stands behind them, are all from a on
@@ -30,11 +30,11 @@ to-end a b s h = take-all (b - a) (drop a s) (omega (arith, length-drop a s))
 module _ {A : Type 0} (read : List ℕ → Res A) (s : List ℕ) {P : A → Type 0} where
   pub finds-columns : (a b : ℕ) → Finds (read (cut a b s)) P → Finds (columns a b read s) P
   unfolding columns
-  finds-columns a b p = p
+  finds-columns a b p = finds-moved a p
 
   pub finds-rest : (a : ℕ) → Finds (read (drop a s)) P → Finds (columns a (length s) read s) P
   unfolding columns
-  finds-rest a p = rw (to-end a (length s) s refl) p
+  finds-rest a p = finds-moved a (rw (to-end a (length s) s refl) p)
 
   pub finds-sized : (n : ℕ) → (length s ≡ n → Finds (read s) P) → Finds (sized n read s) P
   unfolding sized

@@ -1,6 +1,7 @@
 -- Each exception is needed, by computation.
-use Rattle.text.specs.Prelude.{bind, guard, pick, _≤?_, _=?_, _∧?_, _∨?_, cut, columns, readNat, readInt, readDigits}
-use Rattle.text.specs.Prelude.{isDigit, allDigits, zeros, padded, signed, digits, placesOf, valueFrom}
+use Rattle.text.specs.Prelude.{bind, moved, guard, pick, placed, movedBy, _≤?_, _=?_, _∧?_, _∨?_, cut, columns, readNat}
+use Rattle.text.specs.Prelude.{readInt, readDigits}
+use Rattle.text.specs.Prelude.{isDigit, allDigits, firstOther, zeros, padded, signed, digits, placesOf, valueFrom}
 use Rattle.text.proofs.Prelude.{refl}
 use Rattle.part.specs.Part.{bytesOf, findPart, findMaybe, textOf, partText, maybeText, restFrom, nameFrom}
 use Rattle.text.specs.Number.{placesIn}
@@ -27,8 +28,10 @@ use Rattle.promises.specs.Back.{Needed}
 
 pub needed : Needed
 unfolding
-    bind guard pick _≤?_ _=?_ _∧?_ _∨?_ bytesOf findPart findMaybe textOf partText maybeText restFrom nameFrom
-    isDigit allDigits valueFrom readDigits readNat readInt digits placesIn placesOf padded signed zeros isAscii cut
+    bind moved guard pick placed movedBy _≤?_ _=?_ _∧?_ _∨?_ bytesOf findPart findMaybe textOf partText maybeText
+    restFrom nameFrom
+    isDigit allDigits firstOther valueFrom readDigits readNat readInt digits placesIn placesOf padded signed zeros
+    isAscii cut
     columns sized asciiIn ascii field mnemonicText readThree threeText timeOf readTime timeText dateOf readDate
     dateText coord.compassLetter coord.signOf coord.coordOf coord.lettered coord.readCoord coord.coordText
     coord.latitude coord.longitude coord.latitudeIn coord.longitudeIn position.readBoth position.readPosition

@@ -18,3 +18,4 @@ pub mod Tables
 pub mod Lines
 pub mod Shown
 pub mod Exceptions
+pub mod Places

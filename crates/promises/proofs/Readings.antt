@@ -1,6 +1,7 @@
 -- The starred readings hold, by computation.
-use Rattle.text.specs.Prelude.{bind, guard, pick, _≤?_, _=?_, _∧?_, _∨?_, cut, columns, readNat, readInt, readDigits}
-use Rattle.text.specs.Prelude.{isDigit, allDigits, zeros, padded, signed, digits, placesOf, valueFrom}
+use Rattle.text.specs.Prelude.{bind, moved, guard, pick, placed, movedBy, _≤?_, _=?_, _∧?_, _∨?_, cut, columns, readNat}
+use Rattle.text.specs.Prelude.{readInt, readDigits}
+use Rattle.text.specs.Prelude.{isDigit, allDigits, firstOther, zeros, padded, signed, digits, placesOf, valueFrom}
 use Rattle.text.proofs.Prelude.{refl}
 use Rattle.part.specs.Part.{bytesOf, findPart, findMaybe, textOf, partText, maybeText, restFrom, nameFrom}
 use Rattle.text.specs.Number.{placesIn}
@@ -24,8 +25,10 @@ use Rattle.promises.specs.Starred.{Starred}
 
 pub starred : Starred
 unfolding
-    bind guard pick _≤?_ _=?_ _∧?_ _∨?_ bytesOf findPart findMaybe textOf partText maybeText restFrom nameFrom isDigit
-    allDigits valueFrom readDigits readNat readInt digits placesIn placesOf padded signed zeros isAscii cut columns
+    bind moved guard pick placed movedBy _≤?_ _=?_ _∧?_ _∨?_ bytesOf findPart findMaybe textOf partText maybeText
+    restFrom nameFrom isDigit
+    allDigits firstOther valueFrom readDigits readNat readInt digits placesIn placesOf padded signed zeros isAscii
+    cut columns
     sized asciiIn ascii field mnemonicText readThree threeText timeOf readTime timeText secondsOf dateOf readDate
     dateText compassLetter signOf coordOf lettered readCoord latitude readLatitude maker.letterOf maker.tripleSpelt
     maker.tripleOf maker.known maker.firstOf maker.isLetter maker.isTriple maker.letterMaker maker.tripleMaker

@@ -47,12 +47,11 @@ table-text b ds h = pass _ (yes≤ h) (rw (take-at ds (replicate (99 - length ds
 
 count-most : (s : List ℕ) → 3 ≤ length s →
     Finds (columns 1 3 (readNat 255) s) (λ n. Copy (plus (cut 1 3 s)) (cut 1 3 s) (padded 2 n) × (n ≤ 99))
-unfolding columns
 count-most s l =
-    record {
-      found = λ n e.
-          (nat-copy 1 2 255 s l .found n e, two-characters 255 (cut 1 3 s) (omega (arith, cut-length 1 2 s l)) (sym e));
-    }
+    let few : Finds (readNat 255 (cut 1 3 s)) (λ n. n ≤ 99) = record {
+      found = λ n e. two-characters 255 (cut 1 3 s) (omega (arith, cut-length 1 2 s l)) (sym e);
+    } in
+    record { found = λ n e. (nat-copy 1 2 255 s l .found n e, finds-columns _ s 1 3 few .found n e) }
 
 pub table-again : (s : List ℕ) (b : ℕ) → byte 0 s ≡ b →
     Finds (readTable s) (λ ds. Again (tableOdd s) s (tableText b (tableOf ds)))

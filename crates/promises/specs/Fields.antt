@@ -9,14 +9,14 @@ use Rattle.held.specs.declared.tables.Tables.{Tables}
 use Rattle.walk.specs.Readings.{Line-read, reader}
 use Rattle.listing_text.specs.Line.{headText}
 use Rattle.record_text.specs.Record.{recordShown}
-use Rattle.fields_text.specs.Line.{bookShown, printedShown, fieldsText}
+use Rattle.fields_text.specs.Line.{bookShown, printedShown, placeShown, fieldsText}
 
--- The fields of an accepted line, its verdict and its text as printed; a refused line has none.
+-- The fields of an accepted line, its verdict and its text as printed; of a refused line the place.
 unfoldable pub fieldsAs : Res Record → Res (List ℕ) → Tables → List ℕ → List ℕ → List ℕ
 fieldsAs (ok r) (ok printed) h names s = recordShown r (recordTable r s) h names s
     ++ (bookShown r ++ printedShown printed)
 fieldsAs (ok r) (no n) h names s = []
-fieldsAs (no n) printed h names s = []
+fieldsAs (no n) printed h names s = placeShown n
 
 -- A line of `fields`, with the line read and printed again in it.
 unfoldable pub lineAs : List ℕ → Line-read → List ℕ

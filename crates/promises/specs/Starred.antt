@@ -45,11 +45,11 @@ pub record Starred : Type 0 where
   pub time-246060 : readTime (spelt "246060") ≡ ok (record { hours = 24; minutes = 60; seconds = 60 })
   pub seconds-246060 : bind (readTime (spelt "246060")) (λ t. ok (secondsOf t)) ≡ ok 90060
   pub time-250000 : readTime (spelt "250000") ≡ no OutOfRange
-  -- `9060000N` accepted; `9060001N` 4; `9065536N` 3.
+  -- `9060000N` accepted; `9060001N` 4; `9065536N` 3, at the first byte of the thousandths.
   pub latitude-9060000N : readLatitude (spelt "9060000N")
       ≡ ok (record { 0 = record { degrees = 90; «minute_thousandths» = 60000; sign = North } })
   pub latitude-9060001N : readLatitude (spelt "9060001N") ≡ no OutOfRange
-  pub latitude-9065536N : readLatitude (spelt "9065536N") ≡ no UnreadableNumber
+  pub latitude-9065536N : readLatitude (spelt "9065536N") ≡ no (UnreadableNumber 2)
   -- `C230718092044+0+0+0000204` has a flight date, and prints `C230718092044000000000204`, which has none.
   pub flight-of-pluses : bind (readDeclaration (spelt "C230718092044+0+0+0000204")) (λ r. ok (r .«flight_date»))
       ≡ ok (On (record { day = 0; month = 0; year = 0 }))

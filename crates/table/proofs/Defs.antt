@@ -1,9 +1,10 @@
 -- Definitions in turn: the loops that read them and put them.
 use Rattle.text.specs.Prelude.{ℕ, suc, _+_, _-_, _*_, _≤_, _<_, min, _≡_, Bool, true, false, List, [], _∷_, _++_, map}
-use Rattle.text.specs.Prelude.{length, take, drop, getD, set, replicate, Res, ok, no, bind, cut, columns}
+use Rattle.text.specs.Prelude.{length, take, drop, getD, set, replicate, Res, ok, no, bind, moved, movedBy, cut}
+use Rattle.text.specs.Prelude.{columns}
 use Rattle.text.proofs.Prelude.{arith, refl, sym, ap, _∙_, append-nil, append-assoc, length-append, take-all, drop-drop}
-use Rattle.text.proofs.Prelude.{off}
-use native.Mathlib.Nat.{add-sub-cancel-left}
+use Rattle.text.proofs.Prelude.{off, found-in, refused-in, moved-twice}
+use native.Mathlib.Nat.{add-zero, add-sub-cancel-left}
 use native.Mathlib.Numerals.{add-one}
 use lib.Dec.{leb}
 use lib.ListN.{length-map}
@@ -35,53 +36,72 @@ unfolding defsBehind bind
 behind-one p e (ok es) = ap ok (sym (append-assoc p (e ∷ []) es))
 behind-one p e (no n) = refl
 
--- the first of k + 1 definitions, and the others
-readDefs-suc : (k : ℕ) (s : List ℕ) →
-    readDefs (suc k) s ≡ bind (readExtension (take 7 s)) (λ e. bind (readDefs k (drop 7 s)) (λ es. ok (e ∷ es)))
-unfolding readDefs columns cut
-readDefs-suc k s = rw (cut-rest s 7)
+-- two in a row from a place on: the first of seven characters, and what comes behind it
+in-row : (a : ℕ) (x : Res Extension) (y : Res (List Extension)) →
+    moved a (bind (moved 0 x) (λ e. bind (moved 7 y) (λ es. ok (e ∷ es))))
+    ≡ bind (moved a x) (λ e. bind (moved (a + 7) y) (λ es. ok (e ∷ es)))
+unfolding moved bind
+in-row a (ok e) (ok es) = refl
+in-row a (ok e) (no n) = moved-twice {A = List Extension} a 7 (no n)
+in-row a (no n) y = moved-twice {A = List Extension} a 0 (no n)
+    ∙ ap (λ (k : ℕ). moved {A = List Extension} k (no n)) (add-zero a)
 
--- i definitions of the body were read, those of p
-pub record Turn (body : List ℕ) (n i : ℕ) (defs : List Extension) : Type 0 where
+-- the first of k + 1 definitions from a place on, and the others
+readDefs-suc : (a k : ℕ) (s : List ℕ) →
+    moved a (readDefs (suc k) s)
+    ≡ bind (moved a (readExtension (take 7 s))) (λ e.
+    bind (moved (a + 7) (readDefs k (drop 7 s))) (λ es. ok (e ∷ es)))
+unfolding readDefs columns cut
+readDefs-suc a k s = rw (cut-rest s 7) (in-row a (readExtension (take 7 s)) (readDefs k (drop 7 s)))
+
+-- i definitions of the line were read, those of p
+pub record Turn (s : List ℕ) (n i : ℕ) (defs : List Extension) : Type 0 where
   pub p : List Extension
   pub count : length p ≡ i
   pub inside : i ≤ n
   pub held : defs ≡ p ++ replicate (99 - i) empty
-  pub left : defsBehind p (readDefs (n - i) (drop (i * 7) body)) ≡ readDefs n body
+  pub left : defsBehind p (moved (3 + i * 7) (readDefs (n - i) (drop (3 + i * 7) s)))
+      ≡ columns 3 (length s) (readDefs n) s
 
-pub turn-start : (body : List ℕ) (n : ℕ) → Turn body n 0 (replicate 99 empty)
-turn-start body n =
+pub turn-start : (s : List ℕ) (n : ℕ) → Turn s n 0 (replicate 99 empty)
+unfolding columns cut
+turn-start s n =
     record {
       p = [];
       count = refl;
       inside = omega arith;
       held = refl;
-      left = behind-none _ ∙ ap (λ (k : ℕ). readDefs k body) (omega arith);
+      left = behind-none _ ∙ rw (cut-rest s 3) (ap (λ (k : ℕ). moved 3 (readDefs k (drop 3 s))) (omega arith));
     }
 
-module _ (body : List ℕ) (n i : ℕ) (defs : List Extension) (t : Turn body n i defs) (more : i < n) where
+module _ (s : List ℕ) (n i : ℕ) (defs : List Extension) (t : Turn s n i defs) (more : i < n) where
+  abbrev at : ℕ
+  at = 3 + i * 7
+
   rest : defsBehind (t .p)
-      (bind (readExtension (take 7 (drop (i * 7) body)))
-      (λ e. bind (readDefs (n - (i + 1)) (drop ((i + 1) * 7) body)) (λ es. ok (e ∷ es)))) ≡ readDefs n body
+      (bind (moved at (readExtension (take 7 (drop at s)))) (λ e.
+      bind (moved (at + 7) (readDefs (n - (i + 1)) (drop (at + 7) s))) (λ es. ok (e ∷ es))))
+      ≡ columns 3 (length s) (readDefs n) s
   rest =
       let k : n - i ≡ suc (n - (i + 1)) = omega arith in
-      let d : (i + 1) * 7 ≡ i * 7 + 7 = omega arith in
-      rw (d, ← drop-drop) (ap (defsBehind (t .p)) (sym (readDefs-suc (n - (i + 1)) (drop (i * 7) body)))
+      rw (← drop-drop 7 at s) (ap (defsBehind (t .p)) (sym (readDefs-suc at (n - (i + 1)) (drop at s)))
       ∙ (rw k at (t .left)))
 
-  part : take (i * 7 + 7 - i * 7) (drop (i * 7) body) ≡ take 7 (drop (i * 7) body)
-  part = ap (λ (k : ℕ). take k (drop (i * 7) body)) (add-sub-cancel-left (i * 7) 7)
+  part : take (at + 7 - at) (drop at s) ≡ take 7 (drop at s)
+  part = ap (λ (k : ℕ). take k (drop at s)) (add-sub-cancel-left at 7)
 
-  pub turn-refuses : {r : Refusal} → no r ≡ readExtension (take (i * 7 + 7 - i * 7) (drop (i * 7) body)) →
-      no r ≡ readDefs n body
+  pub turn-refuses : {b r : Refusal} → no b ≡ readExtension (take (at + 7 - at) (drop at s)) → r ≡ movedBy at b →
+      no r ≡ columns 3 (length s) (readDefs n) s
   unfolding defsBehind
-  turn-refuses h = off _ (off _ (h ∙ ap readExtension part)) ∙ rest
+  turn-refuses h e = off _ (off _ (refused-in at (h ∙ ap readExtension part) e)) ∙ rest
 
-  pub turn-next : n ≤ 99 → {e : Extension} → ok e ≡ readExtension (take (i * 7 + 7 - i * 7) (drop (i * 7) body)) →
-      Turn body n (i + 1) (set defs i e)
+  pub turn-next : n ≤ 99 → {e : Extension} → ok e ≡ readExtension (take (at + 7 - at) (drop at s)) →
+      Turn s n (i + 1) (set defs i e)
   unfolding bind
   turn-next fits {e} h =
       let k : 99 - i ≡ suc (99 - (i + 1)) = omega arith in
+      let d : 3 + (i + 1) * 7 ≡ at + 7 = omega arith in
+      let others : Res (List Extension) = moved (at + 7) (readDefs (n - (i + 1)) (drop (at + 7) s)) in
       record {
         p = t .p ++ (e ∷ []);
         count = length-append (t .p) (e ∷ []) ∙ omega (arith, t .count);
@@ -90,19 +110,19 @@ module _ (body : List ℕ) (n i : ℕ) (defs : List Extension) (t : Turn body n 
             ap (λ l. set l i e) (t .held ∙ ap (λ (m : ℕ). t .p ++ replicate m empty) k)
             ∙ set-at (t .p) empty (replicate (99 - (i + 1)) empty) e i (t .count)
             ∙ sym (append-assoc (t .p) (e ∷ []) (replicate (99 - (i + 1)) empty));
-        left = sym (behind-one (t .p) e (readDefs (n - (i + 1)) (drop ((i + 1) * 7) body)))
-            ∙ ap (λ m. defsBehind (t .p)
-            (bind m (λ e. bind (readDefs (n - (i + 1)) (drop ((i + 1) * 7) body)) (λ es. ok (e ∷ es)))))
-            (h ∙ ap readExtension part) ∙ rest;
+        left = rw d (sym (behind-one (t .p) e others)
+            ∙ ap (λ m. defsBehind (t .p) (bind m (λ e. bind others (λ es. ok (e ∷ es)))))
+            (found-in at (h ∙ ap readExtension part)) ∙ rest);
       }
 
 held-as : ℕ → List Extension → TableRead
 held-as n defs = record { table = record { defs = defs; count = n }; verdict = Accepted }
 
-pub turn-done : (body : List ℕ) (n i : ℕ) (defs : List Extension) → Turn body n i defs → n ≤ i →
-    record { table = record { defs = defs; count = n }; verdict = Accepted } ≡ tableRead (readDefs n body)
-unfolding tableRead tableOf readDefs defsBehind bind held-as
-turn-done body n i defs t end =
+pub turn-done : (s : List ℕ) (n i : ℕ) (defs : List Extension) → Turn s n i defs → n ≤ i →
+    record { table = record { defs = defs; count = n }; verdict = Accepted }
+    ≡ tableRead (columns 3 (length s) (readDefs n) s)
+unfolding tableRead tableOf readDefs defsBehind bind moved held-as
+turn-done s n i defs t end =
     let z : n - i ≡ 0 = omega (arith, t .inside) in
     let m : n ≡ length (t .p) = omega (arith, t .inside, t .count) in
     let r : 99 - i ≡ 99 - length (t .p) = omega (arith, t .count) in

@@ -2,9 +2,10 @@
 // value.
 ghost use mathlib.Core.Path.{_≡_};
 ghost use mathlib.Core.List.{[]};
-ghost use Prim.Native.Nat.{_*_, _≤_, min};
+ghost use Prim.Native.Nat.{_+_, _*_, _≤_, min};
 ghost use lib.ListN.{length};
 ghost use Rattle.text.specs.Res.{no};
+ghost use Rattle.text.specs.Line.{columns};
 ghost use Rattle.put.specs.Put.{Wrote};
 ghost use Rattle.print.specs.Print.{Prints};
 ghost use Rattle.table.specs.Table.{tableOf, readDefs, isTable, readTable, defsOf, defsText, tableBody};
@@ -80,26 +81,26 @@ impl Table {
         }
     }
 
-    // The n definitions of a body, in turn.
-    fn parse_defs(body: &[u8], n: u8) -> TableRead
-        requires { ⌜ (n ≤ 99) × (length (now body) ≡ 7 * n) ⌝ }
-        ensures { λ r. ⌜ r ≡ tableRead (readDefs n (now (body .entry))) ⌝ }
+    // The n definitions of a line, in turn.
+    fn parse_defs(line: &[u8], n: u8) -> TableRead
+        requires { ⌜ (n ≤ 99) × (length (now line) ≡ 3 + 7 * n) ⌝ }
+        ensures { λ r. ⌜ r ≡ tableRead (columns 3 (length (now (line .entry))) (readDefs n) (now (line .entry))) ⌝ }
     {
         let none = Table::new();
         let mut table = none;
         let k = n as usize;
         let mut i: usize = 0;
         while i < k {
-            let at = i * 7;
+            let at = 3 + i * 7;
             let to = at + 7;
-            match Extension::parse(&body[at..to]) {
+            match Extension::parse(&line[at..to]) {
                 ExtensionRead::Ok(def) => {
                     table.defs[i] = def;
                 }
                 ExtensionRead::Refused(bad) => {
                     return TableRead {
                         table: none,
-                        verdict: Verdict::Refused(bad),
+                        verdict: Verdict::Refused(bad.moved(at)),
                     };
                 }
             }
@@ -130,9 +131,9 @@ impl Table {
                 if line.len() != 3 + 7 * count as usize {
                     return Table::refused(Refusal::Syntax);
                 }
-                Table::parse_defs(&line[3..], count)
+                Table::parse_defs(line, count)
             }
-            U8Read::Refused(no_count) => Table::refused(no_count),
+            U8Read::Refused(no_count) => Table::refused(no_count.moved(1)),
         }
     }
 

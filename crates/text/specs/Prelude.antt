@@ -12,8 +12,10 @@ pub use lib.IntN.{ℤ, pos, negsuc}
 pub use denote.Ref.{RefT}
 unfoldable pub use denote.Ref.{now}
 pub use Rattle.text.specs.Res.{Res, ok, no}
-unfoldable pub use Rattle.text.specs.Res.{bind, guard, pick, numberOf, _≤?_, _=?_, _∧?_, _∨?_}
+unfoldable pub use Rattle.text.specs.Res.{bind, moved, guard, pick, numberOf, placeOf, placed, movedBy, _≤?_}
+unfoldable pub use Rattle.text.specs.Res.{_=?_, _∧?_, _∨?_}
 unfoldable pub use Rattle.text.specs.Line.{LF, CR, byte, cut, columns, begins}
 unfoldable pub use Rattle.text.specs.Word.{largest}
-unfoldable pub use Rattle.text.specs.Number.{readNat, readInt, readDigits, isDigit, allDigits, zeros, plus}
+unfoldable pub use Rattle.text.specs.Number.{readNat, readInt, readDigits, isDigit, allDigits, firstOther, zeros}
+unfoldable pub use Rattle.text.specs.Number.{plus}
 unfoldable pub use Rattle.text.specs.Number.{padded, signed, digits, placesOf, valueFrom}

@@ -24,15 +24,15 @@ pub fn read_three(text: &[u8]) -> ThreeRead
     }
     let a = match read_u8(&text[0..2]) {
         U8Read::Ok(first) => first,
-        U8Read::Refused(no_first) => return ThreeRead::Refused(no_first),
+        U8Read::Refused(no_first) => return ThreeRead::Refused(no_first.moved(0)),
     };
     let b = match read_u8(&text[2..4]) {
         U8Read::Ok(second) => second,
-        U8Read::Refused(no_second) => return ThreeRead::Refused(no_second),
+        U8Read::Refused(no_second) => return ThreeRead::Refused(no_second.moved(2)),
     };
     match read_u8(&text[4..6]) {
         U8Read::Ok(third) => ThreeRead::Ok(Three(a, b, third)),
-        U8Read::Refused(no_third) => ThreeRead::Refused(no_third),
+        U8Read::Refused(no_third) => ThreeRead::Refused(no_third.moved(4)),
     }
 }
 

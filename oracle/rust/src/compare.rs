@@ -106,7 +106,8 @@ impl Tally {
     }
 
     fn answer(&mut self, of: &'static str, answer: Option<&[u8]>) {
-        if let Some(answer) = answer.and_then(|answer| std::str::from_utf8(answer).ok()?.parse().ok()) {
+        let number = |answer| std::str::from_utf8(answer).ok()?.split('@').next()?.parse().ok();
+        if let Some(answer) = answer.and_then(number) {
             *self.answers.entry((of, answer)).or_default() += 1;
         }
     }
@@ -135,7 +136,7 @@ impl Tally {
         };
         let of = if kind(row.line) == "K" { "K lookups" } else { "B lookups" };
         for (lookup, answer) in row.lookups.iter().zip(answers) {
-            self.answer(of, answer.split(|&b| b == b'@').next());
+            self.answer(of, Some(answer));
             if lookup.answer == answer {
                 continue;
             }

@@ -5,6 +5,7 @@
 
 use igc::records::{DataSource, Extendable, Extension, FixValid, KRecord, Record};
 use igc::util::{Compass, Date, ParseError, RawCoord, RawPosition, Time};
+use self::Kind::{I16, I8, U16, U8};
 use std::io::Write;
 use std::panic::{catch_unwind, RefUnwindSafe};
 
@@ -220,10 +221,11 @@ fn read<'t>(text: &'t str, row: &mut Row) -> Option<Record<'t>> {
         }
         Err(error) => {
             let answer = refusal(&error, text);
+            row.head.extend(answer.as_bytes());
             if answer == "3" {
                 row.how = How::Number;
+                write!(row.head, "@{}", place(text.as_bytes())).unwrap();
             }
-            row.head.extend(answer.as_bytes());
             None
         }
     }
@@ -242,6 +244,51 @@ fn refusal(error: &ParseError, text: &str) -> &'static str {
         ParseError::MissingExtension => "6",
         ParseError::IOError(_) | ParseError::Utf8Error(_) => "glue:error",
     }
+}
+
+/// The types of the numbers in a line.
+#[derive(Clone, Copy)]
+enum Kind {
+    U8,
+    U16,
+    I8,
+    I16,
+}
+
+/// Where a line that is refused with 3 is to be looked at, which the Rust does not tell: the first of its numbers that
+/// `str::parse` refuses; in it the first byte that is no digit behind a sign that the type allows, else its own first.
+fn place(line: &[u8]) -> usize {
+    let numbers: &[(usize, usize, Kind)] = match line[0] {
+        b'B' => &[(1, 2, U8), (3, 2, U8), (5, 2, U8), (7, 2, U8), (9, 5, U16), (15, 3, U8), (18, 5, U16), (25, 5, I16), (30, 5, I16)],
+        b'C' if matches!(line[8], b'N' | b'S') => &[(1, 2, U8), (3, 5, U16), (9, 3, U8), (12, 5, U16)],
+        b'C' => &[
+            (1, 2, U8), (3, 2, U8), (5, 2, U8), (7, 2, U8), (9, 2, U8), (11, 2, U8),
+            (13, 2, U8), (15, 2, U8), (17, 2, U8), (19, 4, U16), (23, 2, I8),
+        ],
+        b'K' => &[(1, 2, U8), (3, 2, U8), (5, 2, U8)],
+        _ => return table_place(line),
+    };
+    numbers.iter().find_map(|&(at, width, kind)| refused(line, at, width, kind)).expect("an unreadable number")
+}
+
+/// The count of a table, and then the two columns of each definition.
+fn table_place(line: &[u8]) -> usize {
+    let definitions = (3..line.len()).step_by(7).flat_map(|at| [at, at + 2]);
+    std::iter::once(1).chain(definitions).find_map(|at| refused(line, at, 2, U8)).expect("an unreadable number")
+}
+
+fn refused(line: &[u8], at: usize, width: usize, kind: Kind) -> Option<usize> {
+    let text = std::str::from_utf8(&line[at..at + width]).unwrap();
+    let read = match kind {
+        U8 => text.parse::<u8>().is_ok(),
+        U16 => text.parse::<u16>().is_ok(),
+        I8 => text.parse::<i8>().is_ok(),
+        I16 => text.parse::<i16>().is_ok(),
+    };
+    let signed = matches!(kind, I8 | I16) && text.starts_with('-');
+    let behind = usize::from(signed || text.starts_with('+'));
+    let other = text.bytes().skip(behind).position(|b| !b.is_ascii_digit()).map(|n| behind + n);
+    (!read).then(|| at + other.unwrap_or(0))
 }
 
 fn accepted(line: &str, record: &Record, row: &mut Row) {

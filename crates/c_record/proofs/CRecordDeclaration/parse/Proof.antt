@@ -1,5 +1,6 @@
 use Rattle.text.specs.Prelude.{ℕ, code, _≡_, List, length, now, Res, ok, no, guard, _≤?_, _=?_, byte, cut, columns}
-use Rattle.text.proofs.Prelude.{needs, came, on, off, pass, stop, yes≤, no≤, yes=, no=, so-true, so-false}
+use Rattle.text.proofs.Prelude.{needs, came, on, off, found-in, refused-in, pass, stop, yes≤, no≤, yes=, no=, so-true}
+use Rattle.text.proofs.Prelude.{so-false}
 use mir.Syntax.{w8}
 use mir.Val.{toZ, ofZ}
 use Rattle.field.specs.Field.{asciiIn}
@@ -24,27 +25,33 @@ past c h = pass _ (yes≤ (search needs))
 
 date : (c : tie.After-day) → ok (c .day .given .0 .0) ≡ columns 1 7 readDate (line (search needs))
 unfolding columns cut
-date c = came dateRes (c .day .given .1) (c .before .before .parse .ensures)
+date c = found-in _ (came dateRes (c .day .given .1) (c .before .before .parse .ensures))
 
-no-date : (c : tie.After-no-date) → no (c .no-date .given .0 .0) ≡ columns 1 7 readDate (line (search needs))
+no-date : (c : tie.After-moved) → no (c .moved .result) ≡ columns 1 7 readDate (line (search needs))
 unfolding columns cut
-no-date c = came dateRes (c .no-date .given .1) (c .before .before .parse .ensures)
+no-date c = refused-in _ (came dateRes (c .before .before .no-date .given .1)
+    (c .before .before .before .before .parse .ensures))
+    (c .moved .ensures)
 
 time : (c : tie.After-moment) → ok (c .moment .given .0 .0) ≡ columns 7 13 readTime (line (search needs))
 unfolding columns cut
-time c = came timeRes (c .moment .given .1) (c .before .before .parse2 .ensures)
+time c = found-in _ (came timeRes (c .moment .given .1) (c .before .before .parse2 .ensures))
 
-no-time : (c : tie.After-no-time) → no (c .no-time .given .0 .0) ≡ columns 7 13 readTime (line (search needs))
+no-time : (c : tie.After-moved2) → no (c .moved2 .result) ≡ columns 7 13 readTime (line (search needs))
 unfolding columns cut
-no-time c = came timeRes (c .no-time .given .1) (c .before .before .parse2 .ensures)
+no-time c = refused-in _ (came timeRes (c .before .before .no-time .given .1)
+    (c .before .before .before .before .parse2 .ensures))
+    (c .moved2 .ensures)
 
 flight : (c : tie.After-flight) → ok (c .flight .given .0 .0) ≡ columns 13 19 readFlight (line (search needs))
 unfolding columns cut
-flight c = came flightRes (c .flight .given .1) (c .before .before .read-flight .ensures)
+flight c = found-in _ (came flightRes (c .flight .given .1) (c .before .before .read-flight .ensures))
 
-no-flight : (c : tie.After-no-flight) → no (c .no-flight .given .0 .0) ≡ columns 13 19 readFlight (line (search needs))
+no-flight : (c : tie.After-moved3) → no (c .moved3 .result) ≡ columns 13 19 readFlight (line (search needs))
 unfolding columns cut
-no-flight c = came flightRes (c .no-flight .given .1) (c .before .before .read-flight .ensures)
+no-flight c = refused-in _ (came flightRes (c .before .before .no-flight .given .1)
+    (c .before .before .before .before .read-flight .ensures))
+    (c .moved3 .ensures)
 
 task : (c : tie.After-task) → ok (c .task .given .0 .0) ≡ readTask (line (search needs))
 task c = came taskRes (c .task .given .1) (c .before .before .read-task .ensures)
@@ -68,11 +75,11 @@ parse-spec =
     (search needs) (search needs) (search needs) (search needs)
     (λ c. pass _ (yes≤ (search needs))
     (pass _ (yes= (search needs)) (stop _ (so-false (c .before .is-ascii .ensures) (c .if3 .taken)))))
-    (search needs) (search needs) (search needs) (search needs) (search needs) (search needs)
+    (search needs) (search needs) (search needs) (search needs) (search needs) (search needs) (search needs)
     (λ c. past (search needs) (off _ (no-date (search needs))))
-    (search needs) (search needs) (search needs) (search needs) (search needs) (search needs)
+    (search needs) (search needs) (search needs) (search needs) (search needs) (search needs) (search needs)
     (λ c. past (search needs) (on _ (date (search needs)) (off _ (no-time (search needs)))))
-    (search needs) (search needs) (search needs) (search needs) (search needs) (search needs)
+    (search needs) (search needs) (search needs) (search needs) (search needs) (search needs) (search needs)
     (λ c. past (search needs)
     (on _ (date (search needs)) (on _ (time (search needs)) (off _ (no-flight (search needs))))))
     (search needs) (search needs) (search needs) (search needs)

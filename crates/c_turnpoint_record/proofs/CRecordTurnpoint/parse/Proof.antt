@@ -1,5 +1,6 @@
 use Rattle.text.specs.Prelude.{ℕ, _≡_, true, List, now, ok, no, cut, columns}
-use Rattle.text.proofs.Prelude.{needs, came, on, off, pass, stop, yes≤, no≤, yes=, no=, so-true, so-false}
+use Rattle.text.proofs.Prelude.{needs, came, on, off, found-in, refused-in, pass, stop, yes≤, no≤, yes=, no=, so-true}
+use Rattle.text.proofs.Prelude.{so-false}
 use Rattle.field.specs.Field.{isAscii, asciiIn}
 use Rattle.position.specs.Position.{readPosition, positionRes}
 use Rattle.c_turnpoint_record.specs.CTurnpoint.{readTurnpoint}
@@ -15,12 +16,14 @@ ascii c = search (so-true)
 
 position : (c : tie.After-position) → ok (c .position .given .0 .0) ≡ columns 1 18 readPosition (line (search needs))
 unfolding columns cut
-position c = came positionRes (c .position .given .1) (c .before .before .parse .ensures)
+position c = found-in _ (came positionRes (c .position .given .1) (c .before .before .parse .ensures))
 
-no-position : (c : tie.After-no-position) →
-    no (c .no-position .given .0 .0) ≡ columns 1 18 readPosition (line (search needs))
+no-position : (c : tie.After-moved) →
+    no (c .moved .result) ≡ columns 1 18 readPosition (line (search needs))
 unfolding columns cut
-no-position c = came positionRes (c .no-position .given .1) (c .before .before .parse .ensures)
+no-position c = refused-in _ (came positionRes (c .before .before .no-position .given .1)
+    (c .before .before .before .before .parse .ensures))
+    (c .moved .ensures)
 
 pub parse-spec : {M : Type 1} → statement M
 unfolding readTurnpoint asciiIn cut
@@ -33,6 +36,7 @@ parse-spec =
     (search needs) (search needs) (search needs) (search needs)
     (λ c. pass _ (yes≤ (search needs)) (pass _ (yes= (search needs)) (stop _ (search (so-false)))))
     (search needs) (search needs) (search needs) (search needs) (search needs) (search needs) (search needs)
+    (search needs)
     (λ c. pass _ (yes≤ (search needs))
     (pass _ (yes= (search needs))
     (pass _ (ascii (search needs)) (on _ (position (search needs)) (rw (c .from-column .ensures))))))

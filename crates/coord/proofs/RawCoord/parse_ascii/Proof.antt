@@ -1,5 +1,5 @@
 use Rattle.text.specs.Prelude.{ℕ, _+_, _≡_, List, now, Res, ok, no, cut, columns, readNat}
-use Rattle.text.proofs.Prelude.{needs, came, on, off, pass, stop, yes=, no=}
+use Rattle.text.proofs.Prelude.{needs, came, on, off, found-in, refused-in, pass, stop, yes=, no=}
 use Rattle.text.specs.Number.{u8Res, u16Res}
 use Rattle.field.specs.Field.{sized}
 use Rattle.coord.specs.Coord.{readCoord}
@@ -18,19 +18,23 @@ small b = columns (b .args .d) (b .args .d + 5) (readNat 65535) (text b)
 
 degrees : (c : tie.After-whole) → ok (c .whole .given .0 .0) ≡ whole (search needs)
 unfolding columns cut
-degrees c = came u8Res (c .whole .given .1) (c .before .before .read-u8 .ensures)
+degrees c = found-in _ (came u8Res (c .whole .given .1) (c .before .before .read-u8 .ensures))
 
-no-degrees : (c : tie.After-no-degrees) → no (c .no-degrees .given .0 .0) ≡ whole (search needs)
+no-degrees : (c : tie.After-moved) → no (c .moved .result) ≡ whole (search needs)
 unfolding columns cut
-no-degrees c = came u8Res (c .no-degrees .given .1) (c .before .before .read-u8 .ensures)
+no-degrees c = refused-in _ (came u8Res (c .before .before .no-degrees .given .1)
+    (c .before .before .before .before .read-u8 .ensures))
+    (c .moved .ensures)
 
 thousandths : (c : tie.After-small) → ok (c .small .given .0 .0) ≡ small (search needs)
 unfolding columns cut
-thousandths c = came u16Res (c .small .given .1) (c .before .before .read-u16 .ensures)
+thousandths c = found-in _ (came u16Res (c .small .given .1) (c .before .before .read-u16 .ensures))
 
-no-thousandths : (c : tie.After-no-thousandths) → no (c .no-thousandths .given .0 .0) ≡ small (search needs)
+no-thousandths : (c : tie.After-moved2) → no (c .moved2 .result) ≡ small (search needs)
 unfolding columns cut
-no-thousandths c = came u16Res (c .no-thousandths .given .1) (c .before .before .read-u16 .ensures)
+no-thousandths c = refused-in _ (came u16Res (c .before .before .no-thousandths .given .1)
+    (c .before .before .before .before .read-u16 .ensures))
+    (c .moved2 .ensures)
 
 pub parse-ascii-spec : {M : Type 1} → statement M
 unfolding sized readCoord
@@ -39,9 +43,10 @@ parse-ascii-spec =
     (tie.spec
     (search needs)
     (λ c. stop _ (no= (search needs)))
-    (search needs) (search needs) (search needs) (search needs) (search needs) (search needs)
+    (search needs) (search needs) (search needs) (search needs) (search needs) (search needs) (search needs)
     (λ c. pass _ (yes= (search needs)) (off _ (no-degrees (search needs))))
     (search needs) (search needs) (search needs) (search needs) (search needs) (search needs) (search needs)
+    (search needs)
     (λ c. pass _ (yes= (search needs)) (on _ (degrees (search needs)) (off _ (no-thousandths (search needs)))))
     (search needs) (search needs)
     (λ c. pass _ (yes= (search needs))

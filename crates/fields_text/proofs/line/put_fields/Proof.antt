@@ -1,5 +1,4 @@
-use Rattle.text.proofs.Prelude.{needs, arith}
-use Rattle.put.proofs.Writing.{wrote-nothing}
+use Rattle.text.proofs.Prelude.{needs}
 use Rattle.fields_text.specs.Line.{fieldsShown}
 use Rattle.fields_text.proofs.line.put_fields.Statement.{statement}
 use Rattle.fields_text.proofs.line.put_fields.Tie as tie
@@ -10,5 +9,7 @@ put-fields-spec =
     tie.close
     (tie.spec
     (search needs) (search needs) (search needs) (search needs)
+    (search needs)
     (λ c. rw (c .before .before .before .before .before .reading .given .1) (c .before .before .put-seen .ensures))
-    (λ c. rw (c .enum-told .given .1) (wrote-nothing _ _ (omega arith) (omega arith))))
+    (search needs)
+    (λ c. rw (c .before .before .before .before .before .reading2 .given .1) (c .before .before .put-place .ensures)))

@@ -1,5 +1,6 @@
 use Rattle.text.specs.Prelude.{ℕ, _≤_, _≡_, true, List, length, now, ok, no, byte, cut, columns, readNat}
-use Rattle.text.proofs.Prelude.{needs, arith, refl, ap, _∙_, length-drop, length-take, came, on, off, pass, stop, yes≤}
+use Rattle.text.proofs.Prelude.{needs, arith, refl, ap, _∙_, length-drop, length-take, came, on, off, found-in}
+use Rattle.text.proofs.Prelude.{refused-in, pass, stop, yes≤}
 use Rattle.text.proofs.Prelude.{no≤, yes=, no=, so-true, so-false}
 use Rattle.text.specs.Number.{u8Res}
 use Rattle.field.specs.Field.{isAscii, asciiIn, ascii}
@@ -22,19 +23,20 @@ plain c = so-true (c .before .is-ascii .ensures) (c .if3 .left)
 
 count : (c : tie.After-count) → ok (c .count .given .0 .0) ≡ columns 1 3 (readNat 255) (line (search needs))
 unfolding columns cut
-count c = came u8Res (c .count .given .1) (c .before .before .read-u8 .ensures)
+count c = found-in 1 (came u8Res (c .count .given .1) (c .before .before .read-u8 .ensures))
 
-no-count : (c : tie.After-no-count) → no (c .no-count .given .0 .0) ≡ columns 1 3 (readNat 255) (line (search needs))
+no-count : (c : tie.After-moved) → no (c .moved .result) ≡ columns 1 3 (readNat 255) (line (search needs))
 unfolding columns cut
-no-count c = came u8Res (c .no-count .given .1) (c .before .before .read-u8 .ensures)
+no-count c = refused-in 1 (came u8Res (c .before .before .no-count .given .1)
+    (c .before .before .before .before .read-u8 .ensures)) (c .moved .ensures)
 
 at-most-99 : (c : tie.After-count) → c .count .given .0 .0 ≤ 99
 unfolding columns cut
 at-most-99 c = two-characters 255 (cut 1 3 (line (search needs))) (simp (length-take, length-drop) (omega arith))
-    (count c)
+    (came u8Res (c .count .given .1) (c .before .before .read-u8 .ensures))
 
 fits : tie.Need-parse-defs-requires
-fits c κs = (at-most-99 (search needs), simp (length-take, length-drop) (omega arith))
+fits c κs = (at-most-99 (search needs), search needs)
 
 pub parse-spec : {M : Type 1} → statement M
 unfolding readTable readBody ascii asciiIn columns cut
@@ -58,9 +60,8 @@ parse-spec =
     (pass _ (yes≤ (long (search needs)))
     (pass _ (lettered (search needs))
     (pass _ (plain (search needs)) (on _ (count (search needs)) (stop _ (no= (search needs))))))))
-    (search needs) (search needs) (search needs)
     fits
-    (search needs) (search needs)
+    (search needs) (search needs) (search needs)
     (λ c. c .parse-defs .ensures ∙ ap tableRead
     (pass _ (yes≤ (long (search needs)))
     (pass _ (lettered (search needs))

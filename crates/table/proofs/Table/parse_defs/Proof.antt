@@ -19,10 +19,13 @@ loop-holds c = rw (c .new .ensures) (turn-start _ _)
 bad : tie.Need-returns Inv-loop μ-loop
 unfolding tableRead
 bad c =
-    let l = c .before .before .before .before .before .before .loop in
-    rw (c .before .before .before .before .before .before .before .new .ensures)
+    let b : tie.After-bad Inv-loop μ-loop = search needs in
+    let p : tie.After-parse Inv-loop μ-loop = search needs in
+    let m : tie.After-moved Inv-loop μ-loop = search needs in
+    let l = c .before .before .before .before .before .before .before .loop in
+    rw (c .before .before .before .before .before .before .before .before .new .ensures)
     (ap tableRead (turn-refuses _ _ (l .i) _ (l .inv) (search needs)
-    (came extensionRes (c .before .bad .given .1) (c .before .before .before .parse .ensures))))
+    (came extensionRes (b .bad .given .1) (p .parse .ensures)) (m .moved .ensures)))
 
 loop-again : tie.Need-loop-again Inv-loop μ-loop
 loop-again c =
@@ -43,7 +46,7 @@ parse-defs-spec =
     loop-holds
     (search needs) (search needs) (search needs) (search needs)
     (λ c. omega (arith, c .before .loop .inv .inside))
-    (search needs) (search needs) (search needs) (search needs) (search needs)
+    (search needs) (search needs) (search needs) (search needs) (search needs) (search needs) (search needs)
     bad
     (search needs) (search needs)
     loop-again
