@@ -208,17 +208,18 @@ three-aim make makes s l =
     (columns-in _ (nat-aims 255) 4 6 s (omega arith))
     (λ c. makes a b c)))
 
+of-three : {A : Type 0} (make : ℕ → ℕ → ℕ → Res A) → ((a b c : ℕ) → Aims 0 6 (make a b c)) →
+    Aimed (field 6 (readThree make))
+of-three make makes s some fits =
+    field-aim 6 (readThree make) s (λ l. aims-wider (three-aim make makes s l) (omega arith) (omega arith))
+
 pub time-aims : Aimed readTime
 unfolding readTime timeOf
-time-aims s some fits =
-    field-aim 6 (readThree timeOf) s (λ l.
-    aims-wider (three-aim timeOf (λ a b c. aims-guard _ refl (λ _. aims-ok)) s l) (omega arith) (omega arith))
+time-aims = of-three timeOf (λ a b c. aims-guard _ refl (λ _. aims-ok))
 
 pub date-aims : Aimed readDate
 unfolding readDate dateOf
-date-aims s some fits =
-    field-aim 6 (readThree dateOf) s (λ l.
-    aims-wider (three-aim dateOf (λ a b c. aims-guard _ refl (λ _. aims-ok)) s l) (omega arith) (omega arith))
+date-aims = of-three dateOf (λ a b c. aims-guard _ refl (λ _. aims-ok))
 
 -- a coordinate with d characters of degrees
 coord-aim : (d limit : ℕ) (x y : Compass) (s : List ℕ) → 1 ≤ d → d ≤ 3 → length s ≡ d + 6 →
@@ -231,29 +232,37 @@ coord-aim d limit x y s some few l =
     (λ t. aims-bind (aims-pick (λ _. aims-ok) (λ _. aims-pick (λ _. aims-ok) (λ _. aims-no refl)))
     (λ sign. aims-guard _ refl (λ _. aims-ok))))
 
+-- in a text that is known to be ASCII, and as a field
+module _ (d limit : ℕ) (x y : Compass) (some : 1 ≤ d) (few : d ≤ 3) where
+  coord-in : Aimed (sized (d + 6) (readCoord d limit x y))
+  coord-in s _ fits =
+      sized-aim (d + 6) (readCoord d limit x y) s (λ l.
+      aims-wider (coord-aim d limit x y s some few l) (omega arith) (omega arith))
+
+  coord-of : Aimed (field (d + 6) (readCoord d limit x y))
+  coord-of s _ fits =
+      field-aim (d + 6) (readCoord d limit x y) s (λ l.
+      aims-wider (coord-aim d limit x y s some few l) (omega arith) (omega arith))
+
 latitude-in : Aimed latitudeIn
 unfolding latitudeIn latitude
 latitude-in s some fits =
-    aims-bind (sized-aim 8 (readCoord 2 90 North South) s (λ l.
-    aims-wider (coord-aim 2 90 North South s (omega arith) (omega arith) l) (omega arith) (omega arith))) (λ _. aims-ok)
+    aims-bind (coord-in 2 90 North South (omega arith) (omega arith) s some fits) (λ _. aims-ok)
 
 longitude-in : Aimed longitudeIn
 unfolding longitudeIn longitude
 longitude-in s some fits =
-    aims-bind (sized-aim 9 (readCoord 3 180 East West) s (λ l.
-    aims-wider (coord-aim 3 180 East West s (omega arith) (omega arith) l) (omega arith) (omega arith))) (λ _. aims-ok)
+    aims-bind (coord-in 3 180 East West (omega arith) (omega arith) s some fits) (λ _. aims-ok)
 
 pub latitude-aims : Aimed readLatitude
 unfolding readLatitude latitude
 latitude-aims s some fits =
-    aims-bind (field-aim 8 (readCoord 2 90 North South) s (λ l.
-    aims-wider (coord-aim 2 90 North South s (omega arith) (omega arith) l) (omega arith) (omega arith))) (λ _. aims-ok)
+    aims-bind (coord-of 2 90 North South (omega arith) (omega arith) s some fits) (λ _. aims-ok)
 
 pub longitude-aims : Aimed readLongitude
 unfolding readLongitude longitude
 longitude-aims s some fits =
-    aims-bind (field-aim 9 (readCoord 3 180 East West) s (λ l.
-    aims-wider (coord-aim 3 180 East West s (omega arith) (omega arith) l) (omega arith) (omega arith))) (λ _. aims-ok)
+    aims-bind (coord-of 3 180 East West (omega arith) (omega arith) s some fits) (λ _. aims-ok)
 
 pub position-aims : Aimed readPosition
 unfolding readPosition readBoth
