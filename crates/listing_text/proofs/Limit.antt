@@ -1,7 +1,6 @@
 -- The text of the paper's program, by the length of the log.
 use Rattle.text.specs.Prelude.{ℕ, _≤_, _<_, _≡_, List, length, _≤?_}
-use Rattle.text.proofs.Prelude.{arith, refl, sym, first, second, yes≤, no≤, is≤, isnt≤}
-use Rattle.log.proofs.Ends.{by-test}
+use Rattle.text.proofs.Prelude.{arith, refl, sym, first, second, yes≤, no≤, is≤, isnt≤, by-test}
 use Rattle.listing_text.specs.Listing.{listingText, roomFor}
 use Rattle.listing_text.specs.Paper.{tooLong, paperText, PaperHasRoom}
 use Rattle.listing_text.proofs.Room.{has-room}

@@ -3,7 +3,7 @@ use Rattle.text.specs.Prelude.{ℕ, _+_, _≤_, _≡_, List, [], _∷_, length,
 use Rattle.text.specs.Prelude.{largest, signed}
 use Rattle.text.proofs.Prelude.{arith, refl, length-append, is≤}
 use Rattle.text.specs.declared.refusal.Refusal.{Refusal}
-use Rattle.text.proofs.Finds.{Finds, finds-ok, finds-bind, finds-moved, finds-guard, finds-pick}
+use Rattle.text.proofs.Finds.{Finds, finds-any, finds-ok, finds-bind, finds-moved, finds-guard, finds-pick}
 use Rattle.text.proofs.RoundTrip.{int-columns}
 use Rattle.text.proofs.Lines.{cut-length}
 use Rattle.field.specs.Field.{asciiIn, ascii}
@@ -28,10 +28,6 @@ use Rattle.listing_text.specs.Listing.{lineOf, listed, listingText, room
 -- An answer of at most two characters, and heights of at most twelve.
 abbrev Short : Res Record → Type 0
 Short m = (answered m ≤ 15) × (length (heightsOf (answerFix m)) ≤ 12)
-
--- nothing is said of what is found
-finds-any : {A : Type 0} {m : Res A} → Finds m (λ _. Unit)
-finds-any = record { found = λ _ _. tt }
 
 -- the heights of a line have 5 characters each
 heights-columns : (s : List ℕ) → 35 ≤ length s

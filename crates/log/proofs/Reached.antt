@@ -1,7 +1,7 @@
 -- A loop over a log, or over a piece of one: at each place it has made what the lines before that place make.
 use Rattle.text.specs.Prelude.{ℕ, _+_, _-_, _≤_, _<_, _≡_, true, List, [], _∷_, _++_, length, take, drop, _≤?_}
 use Rattle.text.proofs.Prelude.{arith, refl, sym, ap, _∙_, append-nil, length-drop, length-take, drop-of-length-le}
-use Rattle.text.proofs.Prelude.{take-all, length-take-le, is≤, isnt≤}
+use Rattle.text.proofs.Prelude.{take-all, length-take-le, is≤, isnt≤, by-test}
 use mathlib.Core.Option.{Option, none, some}
 use lib.ListN.{take-append-drop}
 use lib.Seq.{take-add}
@@ -9,7 +9,7 @@ use Rattle.part.specs.Part.{bytesOf, partBytes}
 use Rattle.log.specs.Line.{width, lineText, cutAt}
 use Rattle.log.specs.Log.{chunks, closed, Reader, LineRead, readFrom, readings}
 use Rattle.log.specs.declared.Cut.{Cut}
-use Rattle.log.proofs.Ends.{by-test, width-le, lineText-first}
+use Rattle.log.proofs.Ends.{width-le, lineText-first}
 use Rattle.log.proofs.Cuts.{next-gt, next-le, cut-viewed}
 use Rattle.log.specs.Fold.{over, texts, orElse, firstWith, keep, Carried, fresh, readAt, readOn, pastLine}
 use Rattle.log.specs.Fold.{pastLines, fed}

@@ -2,7 +2,7 @@
 use Rattle.text.specs.Prelude.{ℕ, _+_, _≤_, _<_, _≡_, true, false, List, [], _∷_, _++_, length, drop, ok, bind, pick}
 use Rattle.text.specs.Prelude.{_=?_, byte, cut}
 use Rattle.text.proofs.Prelude.{arith, refl, sym, ap, _∙_, append-assoc, length-drop, getD-drop, on, first, yes≤, is≤}
-use Rattle.text.proofs.Prelude.{is=, both}
+use Rattle.text.proofs.Prelude.{is=, both, by-test}
 use native.Mathlib.Nat.{add-sub-cancel-left}
 use borrow.Author.Tests.{eqb-false}
 use Rattle.part.specs.Part.{bytesOf, findMaybe, textOf, partText, maybeText}
@@ -12,7 +12,6 @@ use Rattle.field.specs.Field.{isAscii, asciiIn}
 use Rattle.h_record.specs.HRecord.{sourceByte, sourceOf, colonIn, named, readH, charText, nameText, dataText, hBody}
 use Rattle.h_record.specs.HRecord.{hText}
 use Rattle.h_record.proofs.Colons.{colon-inside}
-use Rattle.log.proofs.Ends.{by-test}
 use Rattle.promises.proofs.Columns.{cut-joined, joined-byte}
 use Rattle.promises.proofs.Parts.{part-text, rest-text, Again, printed-always}
 

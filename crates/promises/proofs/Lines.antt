@@ -1,6 +1,6 @@
 -- Lines of every kind come back, exactly where they are not odd.
 use Rattle.text.specs.Prelude.{ℕ, _≡_, false, List, length, Res, ok, bind, guard, pick, _=?_, _∨?_, byte}
-use Rattle.text.proofs.Prelude.{arith, refl, sym, ap, _∙_, take-all, on, pass, yes≤, no≤, is=, never}
+use Rattle.text.proofs.Prelude.{arith, refl, sym, ap, _∙_, take-all, on, pass, yes≤, no≤, is=, never, by-test}
 use native.Mathlib.Nat.{le-refl}
 use Rattle.part.specs.Part.{bytesOf, findPart, textOf, partText}
 use Rattle.text.proofs.Finds.{Finds, finds-ok, finds-bind, finds-guard}
@@ -10,7 +10,6 @@ use Rattle.table.specs.declared.Table.{Table}
 use Rattle.c_record.specs.CRecord.{turns}
 use Rattle.records.specs.Record.{isNotTaken, kindOf, whole, readC, readKind, readLine}
 use Rattle.record_print.specs.Printed.{recordText}
-use Rattle.log.proofs.Ends.{by-test}
 use Rattle.promises.specs.Odd.{declarationOdd, turnpointOdd, tableOdd, lineOdd}
 use Rattle.promises.specs.Back.{Back, Reprints, ComesBack}
 use Rattle.promises.proofs.Parts.{Again, printed-always}

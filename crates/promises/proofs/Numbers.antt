@@ -2,13 +2,12 @@
 -- written with no plus and is not minus zero.
 use Rattle.text.specs.Prelude.{ℕ, suc, _+_, _-_, _≤_, _≡_, false, List, length, ℤ, pos, negsuc, pick, _=?_, _∧?_, cut}
 use Rattle.text.specs.Prelude.{columns, readNat, readInt, zeros, plus, padded, signed}
-use Rattle.text.proofs.Prelude.{arith, refl, sym, ap, _∙_, fails, neither}
+use Rattle.text.proofs.Prelude.{arith, refl, sym, ap, _∙_, fails, neither, by-test}
 use Rattle.text.specs.Number.{minusZero}
 use Rattle.text.proofs.Finds.{Finds}
 use Rattle.text.proofs.Decimal.{value-padded, zeros-value}
 use Rattle.text.proofs.RoundTrip.{first-padded, padded-read, signed-read, nat-columns, int-columns}
 use Rattle.text.proofs.Lines.{cut-length}
-use Rattle.log.proofs.Ends.{by-test}
 use Rattle.promises.specs.Odd.{signedOdd}
 use Rattle.promises.proofs.Columns.{finds-columns}
 use Rattle.promises.proofs.Copies.{Copy, neither-odd}

@@ -1,10 +1,9 @@
 -- The texts of a line's parts, and what a whole line is printed as.
 use Rattle.text.specs.Prelude.{ℕ, _+_, _≤_, _≡_, Bool, false, List, length, drop, Res, ok, bind, pick, _≤?_, cut}
-use Rattle.text.proofs.Prelude.{arith, refl, sym, ap, drop-of-length-le, on, pass, yes≤, is≤}
+use Rattle.text.proofs.Prelude.{arith, refl, sym, ap, drop-of-length-le, on, pass, yes≤, is≤, by-test}
 use native.Mathlib.Nat.{add-sub-cancel-left}
 use Rattle.part.specs.Part.{bytesOf, findPart, findMaybe, textOf, partText, maybeText, restFrom, nameFrom}
 use Rattle.text.proofs.Lines.{cut-rest}
-use Rattle.log.proofs.Ends.{by-test}
 use Rattle.promises.proofs.Copies.{Copy}
 
 module _ (a : ℕ) (s : List ℕ) where

@@ -1,7 +1,7 @@
 -- Demand 3 holds for this reader: what `log` proves of any, and what it says of extension values and lookups.
 use Rattle.text.specs.Prelude.{ℕ, _≡_, Bool, true, false, not, List, [], _∷_, _++_, length, Res, ok, no, bind, pick}
 use Rattle.text.specs.Prelude.{_=?_, _∨?_, byte, begins}
-use Rattle.text.proofs.Prelude.{refl, sym, ap, _∙_, on, pass, first, second, is=, both}
+use Rattle.text.proofs.Prelude.{refl, sym, ap, _∙_, on, pass, first, second, is=, both, by-test}
 use Rattle.table.specs.Table.{readTable}
 use Rattle.extension.specs.declared.Extension.{Extension}
 use Rattle.records.specs.Record.{kindOf, readKind, readLine}
@@ -9,7 +9,6 @@ use Rattle.records.specs.declared.Record.{Record}
 use Rattle.log.specs.Line.{lineText}
 use Rattle.log.specs.Log.{chunks, readings}
 use Rattle.log.specs.Demand.{Moved, Each, some, Kept, Leaves, Turns, Replaced}
-use Rattle.log.proofs.Ends.{by-test}
 use Rattle.log.proofs.Replaced.{demand-3}
 use Rattle.held.specs.Held.{noTable, spoiled, setBy}
 use Rattle.held.specs.Tables.{noTables}

@@ -1,12 +1,11 @@
 -- A fresh walk reads every line of the log once, in order, before it is done; and so does the desk's reader.
 use Rattle.text.specs.Prelude.{ℕ, zero, suc, _+_, _-_, _≤_, _<_, _≡_, Bool, true, false, List, length, take, drop, RefT}
 use Rattle.text.specs.Prelude.{now, pick, _≤?_, _∧?_, largest}
-use Rattle.text.proofs.Prelude.{arith, refl, sym, ap, _∙_, take-all, second, no≤, is≤, isnt≤, fails}
+use Rattle.text.proofs.Prelude.{arith, refl, sym, ap, _∙_, take-all, second, no≤, is≤, isnt≤, fails, by-test}
 use Rattle.part.specs.Part.{bytesOf}
 use Rattle.records.specs.Record.{readLine}
 use Rattle.log.specs.Line.{cutAt}
 use Rattle.log.specs.Log.{chunks, readFrom, readings}
-use Rattle.log.proofs.Ends.{by-test}
 use Rattle.log.proofs.Cuts.{read-past, read-line, next-gt, next-le, cut-viewed}
 use Rattle.held.specs.Tables.{noTables, tablesAfter}
 use Rattle.held.specs.declared.tables.Tables.{Tables}

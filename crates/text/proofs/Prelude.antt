@@ -25,4 +25,4 @@ pub use Rattle.text.proofs.Steps.{
   isnt≤,
   is=,
 }
-pub use Rattle.text.proofs.Steps.{holds, fails, so-true, so-false, both, neither, never, tested, and}
+pub use Rattle.text.proofs.Steps.{holds, fails, so-true, so-false, both, neither, by-test, never, tested, and}

@@ -1,9 +1,8 @@
 -- The whole lines of a piece.
 use Rattle.text.specs.Prelude.{ℕ, zero, suc, _+_, _-_, _≤_, _<_, _≡_, true, false, List, [], _∷_, length, take, drop}
 use Rattle.text.specs.Prelude.{_=?_, byte}
-use Rattle.text.proofs.Prelude.{arith, refl, sym, ap, _∙_, drop-cons, drop-length, first, second, yes=, no=}
+use Rattle.text.proofs.Prelude.{arith, refl, sym, ap, _∙_, drop-cons, drop-length, first, second, yes=, no=, by-test}
 use Rattle.log.specs.Log.{closed, closedFrom}
-use Rattle.log.proofs.Ends.{by-test}
 use Rattle.log.proofs.Chunks.{closed-none}
 use Rattle.window.specs.Piece.{grow, wholeLength}
 

@@ -1,7 +1,6 @@
 use Rattle.text.specs.Prelude.{ℕ, _+_, _-_, _≤_, _≡_, _≤?_, largest}
-use Rattle.text.proofs.Prelude.{needs, arith, refl, sym, _∙_, yes≤, no≤, is≤, isnt≤, holds, fails, tested}
+use Rattle.text.proofs.Prelude.{needs, arith, refl, sym, _∙_, yes≤, no≤, is≤, isnt≤, holds, fails, tested, by-test}
 use lib.Dec.{leb}
-use Rattle.log.proofs.Ends.{by-test}
 use Rattle.products.specs.Feed.{isReady}
 use Rattle.products.proofs.is_ready.Statement.{statement}
 use Rattle.products.proofs.is_ready.Tie as tie

@@ -1,7 +1,6 @@
 use Rattle.text.specs.Prelude.{ℕ, _+_, _-_, _*_, _/_, _≤_, _≡_, _≤?_}
-use Rattle.text.proofs.Prelude.{arith, sym, _∙_, yes≤, no≤, is≤, isnt≤, tested}
+use Rattle.text.proofs.Prelude.{arith, sym, _∙_, yes≤, no≤, is≤, isnt≤, tested, by-test}
 use lib.Dec.{leb}
-use Rattle.log.proofs.Ends.{by-test}
 use Rattle.listing_text.specs.Listing.{roomFor}
 use Rattle.listing_text.proofs.listing.has_room.Statement.{statement}
 use Rattle.listing_text.proofs.listing.has_room.Tie as tie
