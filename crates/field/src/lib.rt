@@ -3,7 +3,7 @@ ghost use mathlib.Core.Path.{_≡_};
 ghost use mathlib.Core.List.{[], _∷_};
 ghost use Prim.Native.Nat.{_+_, _*_, _<_, _^_};
 ghost use lib.ListN.{drop};
-ghost use Rattle.text.specs.Number.{isDigit, allDigits};
+ghost use Rattle.text.specs.Number.{isDigit, allDigits, firstOther};
 ghost use Rattle.put.specs.Put.{Wrote};
 ghost use Rattle.field.specs.Field.{isAscii, mnemonicText};
 use put::put_byte;
@@ -88,6 +88,20 @@ pub fn all_digits(text: &[u8]) -> bool
         i += 1;
     }
     all
+}
+
+// How many digits stand before the first byte that is none; of digits alone, all.
+pub fn first_other(text: &[u8]) -> usize
+    ensures { λ r. ⌜ r ≡ firstOther (now (text .entry)) ⌝ }
+{
+    let mut i = 0;
+    while i < text.len() {
+        if !is_digit(text[i]) {
+            return i;
+        }
+        i += 1;
+    }
+    i
 }
 
 fn is_digit(b: u8) -> bool

@@ -12,7 +12,7 @@ use Rattle.listing_text.specs.Line.{headText}
 use Rattle.piece_text.specs.Piece.{byteShown}
 use Rattle.record_text.specs.Record.{recordShown}
 
--- `y` or `n` for by the book; a line answered 11 or 12 has no verdict.
+-- `y` or `n` for by the book; a line answered 12 has no verdict.
 unfoldable pub bookShown : Record → List ℕ
 bookShown r = pick (acceptedAs r =? 0) (pick (recordBook r) (byteShown (code "y")) (byteShown (code "n"))) []
 

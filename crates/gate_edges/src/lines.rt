@@ -20,7 +20,7 @@ fn answer(record: Record, table: Table, text: &[u8]) {
     say::printed(p, &buf);
 }
 
-fn line(text: &[u8]) {
+pub fn line(text: &[u8]) {
     say::asked(b"line", text);
     match Record::parse_line(text) {
         Reading::Accepted(record) => answer(record, Table::parse(text).table, text),

@@ -1,6 +1,7 @@
 // The readings of document 01 of lines that are run and not proved, each with its answer number. What this writes is
 // held to ../stdout.
 mod foreign;
+mod letters;
 mod lines;
 
 fn main() {
@@ -11,4 +12,10 @@ fn main() {
     lines::tables();
     lines::tasks();
     lines::values();
+    letters::stations();
+    letters::events();
+    letters::satellites();
+    letters::others();
+    letters::first_bytes();
+    letters::sets();
 }

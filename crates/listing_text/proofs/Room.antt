@@ -62,7 +62,12 @@ kind-short b s =
     (picked-has P _ (finds-bind finds-any (λ _ _. finds-ok (omega arith)))
     (picked-has P _ (finds-bind finds-any (λ _ _. finds-ok (omega arith)))
     (picked-has P _ (finds-bind finds-any (λ _ _. finds-ok (omega arith)))
-    (picked-has P _ (finds-ok (omega arith)) (finds-ok (omega arith)))))))))
+    (picked-has P _ (finds-bind finds-any (λ _ _. finds-ok (omega arith)))
+    (picked-has P _ (finds-bind finds-any (λ _ _. finds-ok (omega arith)))
+    (picked-has P _ (finds-bind finds-any (λ _ _. finds-ok (omega arith)))
+    (picked-has P _ (finds-bind finds-any (λ _ _. finds-ok (omega arith)))
+    (picked-has P _ (finds-bind finds-any (λ _ _. finds-ok (omega arith)))
+    (finds-ok (omega arith)))))))))))))
 
 -- a refusal has a number of at most two characters
 refusal-le : (n : Refusal) → numberOf n ≤ 15

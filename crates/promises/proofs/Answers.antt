@@ -10,13 +10,19 @@ use Rattle.time.proofs.Answers.{time-undone}
 use Rattle.date.proofs.Answers.{date-undone}
 use Rattle.coord.proofs.Answers.{latitude-undone, longitude-undone}
 use Rattle.position.proofs.Answers.{position-undone}
+use Rattle.satellites.proofs.Answers.{satellites-undone}
 use Rattle.extension.proofs.Answers.{extension-undone}
 use Rattle.a_record.proofs.Answers.{a-undone}
 use Rattle.b_record.proofs.Answers.{fix-undone, b-undone}
 use Rattle.c_record.proofs.Answers.{declaration-undone}
 use Rattle.c_turnpoint_record.proofs.Answers.{turnpoint-undone}
+use Rattle.d_record.proofs.Answers.{qualifier-undone, d-undone}
+use Rattle.e_record.proofs.Answers.{e-undone}
+use Rattle.f_record.proofs.Answers.{f-undone}
+use Rattle.g_record.proofs.Answers.{g-undone}
 use Rattle.h_record.proofs.Answers.{h-undone}
 use Rattle.k_record.proofs.Answers.{k-undone}
+use Rattle.l_record.proofs.Answers.{l-undone}
 use Rattle.records.proofs.Answers.{reading-undone}
 use Rattle.bench_loops.specs.Timed.{Out}
 use Rattle.promises.specs.Determined.{Tells, Determined}
@@ -39,14 +45,21 @@ determined = record {
   latitude = tells _ _ _ latitude-undone;
   longitude = tells _ _ _ longitude-undone;
   position = tells _ _ _ position-undone;
+  satellites = tells _ _ _ satellites-undone;
   extension = tells _ _ _ extension-undone;
   a = tells _ _ _ a-undone;
   fix = tells _ _ _ fix-undone;
   b = tells _ _ _ b-undone;
   declaration = tells _ _ _ declaration-undone;
   turnpoint = tells _ _ _ turnpoint-undone;
+  qualifier = tells _ _ _ qualifier-undone;
+  d = tells _ _ _ d-undone;
+  e = tells _ _ _ e-undone;
+  f = tells _ _ _ f-undone;
+  g = tells _ _ _ g-undone;
   h = tells _ _ _ h-undone;
   k = tells _ _ _ k-undone;
+  l = tells _ _ _ l-undone;
   reading = tells _ _ _ reading-undone;
   shows = shows-one;
   wrote = wrote-one;

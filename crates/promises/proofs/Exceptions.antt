@@ -20,6 +20,10 @@ use Rattle.b_record.specs.BRecord.{validLetter, validOf, readHeights, readFix, 
 use Rattle.c_record.specs.CRecord.{turns, readFlight, readTask, readDeclaration, flightText, taskText, declarationBody}
 use Rattle.c_record.specs.CRecord.{declarationText}
 use Rattle.c_turnpoint_record.specs.CTurnpoint.{readTurnpoint, turnpointBody, turnpointText}
+use Rattle.satellites.specs.Bits.{bit, word}
+use Rattle.satellites.specs.Satellites.{occurs, inPairs, numbers, readNumbers, wordsOf, setOf, readSatellites}
+use Rattle.e_record.specs.ERecord.{readE, eBody, eText}
+use Rattle.f_record.specs.FRecord.{readHeard, readF, fBody, fText}
 use Rattle.k_record.specs.KRecord.{readTimed, readK, kBody, kText}
 use Rattle.records.specs.Record.{kindOf, readC, readKind, readLine, recordTable}
 use Rattle.record_print.specs.Printed.{recordText, answerPrinted, reprinted}
@@ -39,8 +43,10 @@ unfolding
     maker.letterMaker readDefinition readExtension extensionText tableOf readDefs readBody isTable readTable defsOf
     defsText tableBody tableText tableRead aNew aOf letterForm readA tripleText aBody aText validLetter validOf
     readHeights readFix readB tailText bBody bText turns readFlight readTask readDeclaration flightText taskText
-    declarationBody declarationText readTurnpoint turnpointBody turnpointText readTimed readK kBody kText kindOf
-    readC readKind readLine recordText recordTable answerPrinted reprinted speltFrom spelt
+    declarationBody declarationText readTurnpoint turnpointBody turnpointText
+    occurs inPairs numbers readNumbers wordsOf setOf readSatellites readE eBody eText readHeard readF fBody fText
+    readTimed readK kBody kText kindOf readC readKind readLine recordText recordTable answerPrinted reprinted
+    speltFrom spelt
 needed = record {
   letter-form = refl;
   time = refl;
@@ -58,6 +64,8 @@ needed = record {
   start = refl;
   end = refl;
   data-time = refl;
+  event-time = refl;
+  satellites-time = refl;
   pressure-zero = refl;
   gps-zero = refl;
   count-zero = refl;

@@ -14,6 +14,7 @@ pub mod Fixes
 pub mod Tasks
 pub mod Headers
 pub mod Data
+pub mod Others
 pub mod Tables
 pub mod Lines
 pub mod Shown

@@ -1,5 +1,5 @@
 -- Lines of every kind come back, exactly where they are not odd.
-use Rattle.text.specs.Prelude.{ℕ, _≡_, false, List, length, Res, ok, bind, guard, pick, _=?_, _∨?_, byte}
+use Rattle.text.specs.Prelude.{ℕ, _≡_, true, false, List, length, Res, ok, bind, guard, pick, _=?_, _∨?_, byte}
 use Rattle.text.proofs.Prelude.{arith, refl, sym, ap, _∙_, take-all, on, pass, yes≤, no≤, is=, never, by-test}
 use native.Mathlib.Nat.{le-refl}
 use Rattle.part.specs.Part.{bytesOf, findPart, textOf, partText}
@@ -8,16 +8,17 @@ use Rattle.print.specs.Print.{answerTo, leftBy}
 use Rattle.table.specs.Table.{readTable, tableRead, tableText}
 use Rattle.table.specs.declared.Table.{Table}
 use Rattle.c_record.specs.CRecord.{turns}
-use Rattle.records.specs.Record.{isNotTaken, kindOf, whole, readC, readKind, readLine}
+use Rattle.records.specs.Record.{kindOf, whole, readC, readKind, readLine}
 use Rattle.record_print.specs.Printed.{recordText}
-use Rattle.promises.specs.Odd.{declarationOdd, turnpointOdd, tableOdd, lineOdd}
+use Rattle.promises.specs.Odd.{declarationOdd, turnpointOdd, tableOdd, lineOdd, comesAlways}
 use Rattle.promises.specs.Back.{Back, Reprints, ComesBack}
 use Rattle.promises.proofs.Parts.{Again, printed-always}
 use Rattle.promises.proofs.Recorders.{a-again}
 use Rattle.promises.proofs.Fixes.{b-again}
 use Rattle.promises.proofs.Tasks.{declaration-again, turnpoint-again}
 use Rattle.promises.proofs.Headers.{h-again}
-use Rattle.promises.proofs.Data.{k-again}
+use Rattle.promises.proofs.Data.{e-again, f-again, k-again}
+use Rattle.promises.proofs.Others.{d-again, g-again, l-again}
 use Rattle.promises.proofs.Tables.{table-again}
 
 module _ (s : List ℕ) where
@@ -51,13 +52,16 @@ module _ (s : List ℕ) where
       begins 65 (λ h. rw h (finds-bind (a-again s h) (λ r a. finds-ok a))) (λ na.
       begins 66 (λ h. rw h (finds-bind (b-again s h) (λ r a. finds-ok a))) (λ nb.
       begins 67 (λ h. rw h (c-again h)) (λ nc.
+      begins 68 (λ h. rw h (finds-bind (d-again s h) (λ r a. finds-ok a))) (λ nd.
+      begins 69 (λ h. rw h (finds-bind (e-again s h) (λ r a. finds-ok a))) (λ ne.
+      begins 70 (λ h. rw h (finds-bind (f-again s h) (λ r a. finds-ok a))) (λ nf.
+      begins 71 (λ h. rw h (finds-bind (g-again s h) (λ r a. finds-ok a))) (λ ng.
       begins 72 (λ h. rw h (finds-bind (h-again s h) (λ r a. finds-ok a))) (λ nh.
       begins 73 (λ h. rw h (finds-bind (table-line 73 h) (λ ds a. finds-ok a))) (λ ni.
       begins 74 (λ h. rw h (finds-bind (table-line 74 h) (λ ds a. finds-ok a))) (λ nj.
       begins 75 (λ h. rw h (finds-bind (k-again s h) (λ r a. finds-ok a))) (λ nk.
-      by-test (isNotTaken (byte 0 s))
-      (λ e. rw (na, nb, nc, nh, ni, nj, nk, e) (finds-ok (printed-always whole-text)))
-      (λ e. rw (na, nb, nc, nh, ni, nj, nk, e) (finds-ok (printed-always whole-text))))))))))
+      begins 76 (λ h. rw h (finds-bind (l-again s h) (λ r a. finds-ok a))) (λ nl.
+      rw (na, nb, nc, nd, ne, nf, ng, nh, ni, nj, nk, nl) (finds-ok (printed-always whole-text))))))))))))))
 
   pub line-again : Finds (readLine s) (λ r. Again (lineOdd s) s (recordText r t s))
   unfolding readLine
@@ -73,9 +77,14 @@ back-text e = record {
   no-room = λ b b′ p x h. (x .answer ∙ rw (e, no≤ h), x .left ∙ rw (e, no≤ h));
 }
 
-h-never-odd : (s : List ℕ) → byte 0 s ≡ 72 → lineOdd s ≡ false
-unfolding lineOdd pick _=?_ _∨?_
-h-never-odd s h = rw h
+-- a line of a kind that always comes back is never odd
+always-plain : (s : List ℕ) → comesAlways (byte 0 s) ≡ true → lineOdd s ≡ false
+unfolding lineOdd comesAlways pick _=?_ _∨?_
+always-plain s h =
+    begins s 68 (λ e. rw e) (λ nd.
+    begins s 71 (λ e. rw e) (λ ng.
+    begins s 72 (λ e. rw e) (λ nh.
+    begins s 76 (λ e. rw e) (λ nl. never h (rw (nd, ng, nh, nl))))))
 
 reprints : {s : List ℕ} {m : Res (List ℕ)} → Again (lineOdd s) s m → Reprints s m
 reprints {s} {m} a =
@@ -84,7 +93,7 @@ reprints {s} {m} a =
       printed-accepted = (a .text, sym (a .prints));
       back = back;
       odd = λ o e. let q : a .text ≡ s = cc (a .prints, e) in never o (a .only q);
-      headers = λ h. back (h-never-odd s h);
+      always = λ h. back (always-plain s h);
     }
 
 pub comes-back : ComesBack

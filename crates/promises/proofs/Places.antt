@@ -1,9 +1,8 @@
 -- Where a refusal with 3 points.
-use Rattle.text.specs.Prelude.{ℕ, zero, suc, _+_, _-_, _*_, _≤_, _<_, min, _≡_, Bool, true, false, List, [], _∷_}
-use Rattle.text.specs.Prelude.{length, drop, Res}
-use Rattle.text.specs.Prelude.{ok, no, bind, moved, guard, pick, placeOf, placed, movedBy, _≤?_, _=?_, _∧?_, byte, cut}
-use Rattle.text.specs.Prelude.{columns, largest, readNat, readInt, readDigits, isDigit, allDigits, firstOther}
-use Rattle.text.proofs.Prelude.{arith, refl, sym, ap, _∙_, length-drop, length-take, is=, is≤, never}
+use Rattle.text.specs.Prelude.{ℕ, zero, suc, _+_, _-_, _*_, _≤_, _<_, min, _≡_, Bool, true, false, List, length, drop}
+use Rattle.text.specs.Prelude.{Res, ok, no, bind, moved, guard, pick, placeOf, placed, movedBy, _≤?_, _=?_, byte, cut}
+use Rattle.text.specs.Prelude.{columns, largest, readNat, readInt, readDigits}
+use Rattle.text.proofs.Prelude.{arith, refl, sym, ap, _∙_, length-drop, length-take, is=, is≤}
 use Rattle.text.specs.declared.{refusal.Refusal.Refusal, refusal.MaybePlace.MaybePlace}
 use Rattle.text.specs.declared.refusal.Refusal.the-variants.{UnreadableNumber, Syntax, NotAscii, OutOfRange}
 use Rattle.text.specs.declared.refusal.Refusal.the-variants.{WrongLength}
@@ -11,6 +10,7 @@ use Rattle.text.specs.declared.refusal.Refusal.the-variants.{BadExtension, Miss
 use Rattle.text.specs.declared.refusal.Refusal.the-variants.{NoTable, SpoiledTable, NotDefined}
 use Rattle.text.specs.declared.refusal.MaybePlace.the-variants.{At, Missing}
 use Rattle.field.specs.Field.{sized, asciiIn, ascii, field}
+use Rattle.field.proofs.Digits.{other-inside}
 use Rattle.three.specs.Three.{readThree}
 use Rattle.time.specs.Time.{timeOf, readTime}
 use Rattle.date.specs.Date.{dateOf, readDate}
@@ -19,14 +19,20 @@ use Rattle.coord.specs.Coord.{readLatitude, readLongitude}
 use Rattle.coord.specs.declared.{Compass.Compass}
 use Rattle.coord.specs.declared.Compass.the-variants.{North, South, East, West}
 use Rattle.position.specs.Position.{readBoth, readPosition}
+use Rattle.satellites.specs.Satellites.{readNumbers, readSatellites}
 use Rattle.extension.specs.Extension.{readDefinition, readExtension}
 use Rattle.table.specs.Table.{readDefs, readBody, readTable}
 use Rattle.a_record.specs.ARecord.{readTriple, readA}
 use Rattle.b_record.specs.BRecord.{validOf, readHeights, readFix, readB}
 use Rattle.c_record.specs.CRecord.{readFlight, readTask, readDeclaration}
 use Rattle.c_turnpoint_record.specs.CTurnpoint.{readTurnpoint}
+use Rattle.d_record.specs.DRecord.{qualifierOf, readStation, readD}
+use Rattle.e_record.specs.ERecord.{readE}
+use Rattle.f_record.specs.FRecord.{readHeard, readF}
+use Rattle.g_record.specs.GRecord.{readG}
 use Rattle.h_record.specs.HRecord.{readH}
 use Rattle.k_record.specs.KRecord.{readTimed, readK}
+use Rattle.l_record.specs.LRecord.{readL}
 use Rattle.records.specs.Record.{Kind, kindOf, readC, readKind, readLine}
 use Rattle.promises.specs.Place.{PointsIn, Points, Placed}
 
@@ -90,16 +96,6 @@ module _ {A : Type 0} {a b : ℕ} where
   aims-wider p l h = record { at = λ place e. let i = p .at place e in (omega arith, omega arith) }
 
 -- ---- numbers
-
-other-inside : (s : List ℕ) → allDigits s ≡ false → firstOther s < length s
-unfolding allDigits firstOther _∧?_ pick
-other-inside [] h = never refl h
-other-inside (c ∷ s) h = by-first (other-inside s) (isDigit c) h
-  where
-    by-first : (allDigits s ≡ false → firstOther s < length s) → (t : Bool) → pick t (allDigits s) false ≡ false →
-        pick t (suc (firstOther s)) 0 < suc (length s)
-    by-first rest true e = let h = rest e in omega arith
-    by-first rest false e = omega arith
 
 digits-aim : (sign most : ℕ) (s : List ℕ) → 1 ≤ sign + length s → Aims 0 (sign + length s) (readDigits sign most s)
 unfolding readDigits
@@ -272,6 +268,14 @@ position-aims s some fits =
     aims-bind (columns-in _ longitude-in 8 17 s (omega arith))
     (λ _. aims-ok)))
 
+-- a list of satellites, an empty one too
+satellites-aim : (s : List ℕ) → Aims 0 (length s) (readSatellites s)
+unfolding readSatellites readNumbers
+satellites-aim s =
+    aims-bind
+    (aims-guard _ refl (λ _. aims-or _ (λ other. aims-place (omega arith) (other-inside s other)) (λ _. aims-ok)))
+    (λ _. aims-ok)
+
 pub definition-aims : Aimed readExtension
 unfolding readExtension readDefinition
 definition-aims s some fits =
@@ -283,7 +287,7 @@ definition-aims s some fits =
 
 -- ---- lines
 
--- A and H lines have no number, so no refusal of them points
+-- A, D, G, H and L lines have no number, so no refusal of them points
 a-aims : Aimed readA
 unfolding readA readTriple
 a-aims s some fits =
@@ -294,6 +298,37 @@ a-aims s some fits =
 h-aims : Aimed readH
 unfolding readH
 h-aims s some fits = aims-guard _ refl (λ _. aims-guard _ refl (λ _. ascii-aim (cut 0 5 s) aims-ok))
+
+d-aims : Aimed readD
+unfolding readD ascii readStation qualifierOf
+d-aims s some fits =
+    aims-guard _ refl (λ _. aims-guard _ refl (λ _.
+    ascii-aim s
+    (aims-bind (aims-pick (λ _. aims-ok) (λ _. aims-pick (λ _. aims-ok) (λ _. aims-no refl))) (λ _. aims-ok))))
+
+g-aims : Aimed readG
+unfolding readG
+g-aims s some fits = aims-guard _ refl (λ _. aims-ok)
+
+l-aims : Aimed readL
+unfolding readL
+l-aims s some fits = aims-guard _ refl (λ _. aims-guard _ refl (λ _. ascii-aim (cut 0 4 s) aims-ok))
+
+e-aims : Aimed readE
+unfolding readE
+e-aims s some fits =
+    aims-guard _ refl (λ e. let l : 10 ≤ length s = is≤ e in
+    aims-guard _ refl (λ _.
+    ascii-aim (cut 0 10 s) (aims-bind (columns-in _ time-aims 1 7 s (omega arith)) (λ _. aims-ok))))
+
+f-aims : Aimed readF
+unfolding readF ascii readHeard
+f-aims s some fits =
+    aims-guard _ refl (λ e. let l : 7 ≤ length s = is≤ e in
+    aims-guard _ refl (λ _.
+    ascii-aim s
+    (aims-bind (columns-in _ time-aims 1 7 s (omega arith)) (λ _.
+    aims-bind (behind-aim readSatellites 7 s l fits (satellites-aim (cut 7 (length s) s))) (λ _. aims-ok)))))
 
 heights-aim : (s : List ℕ) → 35 ≤ length s → length s ≤ largest → Aims 0 (length s) (readHeights s)
 unfolding readHeights
@@ -378,11 +413,15 @@ kind-aims Kind.C s some fits =
     aims-guard _ refl (λ _.
     aims-pick (λ _. aims-bind (turnpoint-aims s some fits) (λ _. aims-ok))
     (λ _. aims-bind (declaration-aims s some fits) (λ _. aims-ok)))
+kind-aims Kind.D s some fits = aims-bind (d-aims s some fits) (λ _. aims-ok)
+kind-aims Kind.E s some fits = aims-bind (e-aims s some fits) (λ _. aims-ok)
+kind-aims Kind.F s some fits = aims-bind (f-aims s some fits) (λ _. aims-ok)
+kind-aims Kind.G s some fits = aims-bind (g-aims s some fits) (λ _. aims-ok)
 kind-aims Kind.H s some fits = aims-bind (h-aims s some fits) (λ _. aims-ok)
 kind-aims Kind.I s some fits = aims-bind (table-aims s some fits) (λ _. aims-ok)
 kind-aims Kind.J s some fits = aims-bind (table-aims s some fits) (λ _. aims-ok)
 kind-aims Kind.K s some fits = aims-bind (k-aims s some fits) (λ _. aims-ok)
-kind-aims Kind.NotTaken s some fits = aims-ok
+kind-aims Kind.L s some fits = aims-bind (l-aims s some fits) (λ _. aims-ok)
 kind-aims Kind.Other s some fits = aims-ok
 
 pub line-aims : Aimed readLine
@@ -401,6 +440,7 @@ points-on-its-columns = record {
   latitude = points _ latitude-aims;
   longitude = points _ longitude-aims;
   position = points _ position-aims;
+  satellites = points _ (λ s _ _. satellites-aim s);
   definition = points _ definition-aims;
   line = points _ line-aims;
 }

@@ -18,7 +18,7 @@ use Rattle.a_record.specs.ARecord.{aNew, aOf, letterForm, longForm, readTriple,
 use Rattle.c_record.specs.CRecord.{turns, readFlight, readTask, readDeclaration, flightText, taskText, declarationBody}
 use Rattle.c_record.specs.CRecord.{declarationText}
 use Rattle.h_record.specs.HRecord.{sourceByte, sourceOf, colonIn, named, readH}
-use Rattle.records.specs.Record.{isNotTaken, kindOf, whole, readC, readKind, readLine, recordTable}
+use Rattle.records.specs.Record.{kindOf, whole, readC, readKind, readLine, recordTable}
 use Rattle.record_print.specs.Printed.{recordText, answerPrinted, reprinted}
 use Rattle.promises.specs.Spelt.{speltFrom, spelt}
 use Rattle.promises.specs.Starred.{Starred}
@@ -34,7 +34,7 @@ unfolding
     maker.tripleOf maker.known maker.firstOf maker.isLetter maker.isTriple maker.letterMaker maker.tripleMaker
     readDefinition readExtension readDefs readBody isTable readTable findValue aNew aOf letterForm longForm
     readTriple readA tripleText aBody aText turns readFlight readTask readDeclaration flightText taskText
-    declarationBody declarationText sourceByte sourceOf colonIn named readH isNotTaken kindOf whole readC readKind
+    declarationBody declarationText sourceByte sourceOf colonIn named readH kindOf whole readC readKind
     readLine recordText recordTable answerPrinted reprinted speltFrom spelt
 starred = record {
   line-empty = refl;

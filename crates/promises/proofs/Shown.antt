@@ -11,8 +11,13 @@ use Rattle.a_record.specs.ARecord.{aText}
 use Rattle.b_record.specs.BRecord.{bText}
 use Rattle.c_record.specs.CRecord.{declarationText}
 use Rattle.c_turnpoint_record.specs.CTurnpoint.{turnpointText}
+use Rattle.d_record.specs.DRecord.{dText}
+use Rattle.e_record.specs.ERecord.{eText}
+use Rattle.f_record.specs.FRecord.{fText}
+use Rattle.g_record.specs.GRecord.{gText}
 use Rattle.h_record.specs.HRecord.{hText}
 use Rattle.k_record.specs.KRecord.{kText}
+use Rattle.l_record.specs.LRecord.{lText}
 use Rattle.records.specs.Record.{readLine, recordTable}
 use Rattle.records.specs.declared.Record.{Record}
 use Rattle.record_print.specs.Printed.{recordText, recordPiece, answerPrinted, reprinted}
@@ -35,12 +40,19 @@ text-is-shown (no n) s = finds-no
 
 -- the text of a record is its piece
 text-is-piece : (r : Record) (t : Table) (s : List ℕ) → Finds (recordText r t s) (λ x. recordPiece r t s ≡ x)
-unfolding recordText recordPiece aText bText declarationText turnpointText hText kText tableText partText maybeText
+unfolding
+    recordText recordPiece aText bText declarationText turnpointText dText eText fText gText hText kText lText tableText
+    partText maybeText
 text-is-piece (Record.A r) t s =
     finds-bind (text-is-shown _ s) (λ id i. finds-bind (text-is-shown _ s) (λ rest e. finds-ok (rw (i, e))))
 text-is-piece (Record.B r) t s = finds-bind (text-is-shown _ s) (λ rest e. finds-ok (rw e))
 text-is-piece (Record.CDeclaration r) t s = finds-bind (text-is-shown _ s) (λ name e. finds-ok (rw e))
 text-is-piece (Record.CTurnpoint r) t s = finds-bind (text-is-shown _ s) (λ name e. finds-ok (rw e))
+text-is-piece (Record.D r) t s = finds-bind (text-is-shown _ s) (λ station e. finds-ok (rw e))
+text-is-piece (Record.E r) t s =
+    finds-bind (text-is-shown _ s) (λ m i. finds-bind (text-is-shown _ s) (λ text e. finds-ok (rw (i, e))))
+text-is-piece (Record.F r) t s = finds-bind (text-is-shown _ s) (λ list e. finds-ok (rw e))
+text-is-piece (Record.G r) t s = finds-bind (text-is-shown _ s) (λ rest e. finds-ok (rw e))
 text-is-piece (Record.H r) t s =
     finds-bind (text-is-shown _ s) (λ m i.
     finds-bind (text-is-shown _ s) (λ n j.
@@ -48,7 +60,8 @@ text-is-piece (Record.H r) t s =
 text-is-piece Record.I t s = finds-guard _ (λ _. finds-ok refl)
 text-is-piece Record.J t s = finds-guard _ (λ _. finds-ok refl)
 text-is-piece (Record.K r) t s = finds-bind (text-is-shown _ s) (λ rest e. finds-ok (rw e))
-text-is-piece (Record.NotTaken p) t s = text-is-shown _ s
+text-is-piece (Record.L r) t s =
+    finds-bind (text-is-shown _ s) (λ source i. finds-bind (text-is-shown _ s) (λ text e. finds-ok (rw (i, e))))
 text-is-piece (Record.Unrecognised p) t s = text-is-shown _ s
 
 -- a record prints the same beside the table of its line and beside its own
@@ -59,11 +72,15 @@ own-table (Record.A r) s = refl
 own-table (Record.B r) s = refl
 own-table (Record.CDeclaration r) s = refl
 own-table (Record.CTurnpoint r) s = refl
+own-table (Record.D r) s = refl
+own-table (Record.E r) s = refl
+own-table (Record.F r) s = refl
+own-table (Record.G r) s = refl
 own-table (Record.H r) s = refl
 own-table Record.I s = refl
 own-table Record.J s = refl
 own-table (Record.K r) s = refl
-own-table (Record.NotTaken p) s = refl
+own-table (Record.L r) s = refl
 own-table (Record.Unrecognised p) s = refl
 
 -- an accepted line prints as the piece of its record

@@ -1,6 +1,6 @@
 -- A line read and printed comes back, exactly where it is not odd: said through the contracts, so of what the programs
 -- do.
-use Rattle.text.specs.Prelude.{ℕ, _≤_, _<_, code, _≡_, true, false, List, _++_, length, drop, Res, ok, no, byte}
+use Rattle.text.specs.Prelude.{ℕ, _≤_, _<_, _≡_, true, false, List, _++_, length, drop, Res, ok, no, byte}
 use Rattle.text.specs.declared.refusal.Refusal.the-variants.{NoRoom}
 use Rattle.print.specs.Print.{printedRes, Prints}
 use Rattle.print.specs.declared.printed.Printed.{Printed}
@@ -9,7 +9,7 @@ use Rattle.table.specs.declared.TableRead.{TableRead}
 use Rattle.records.specs.Record.{readLine, readingRes}
 use Rattle.records.specs.declared.{Record.Record, Reading.the-variants.Accepted}
 use Rattle.record_print.specs.Printed.{recordText, reprinted}
-use Rattle.promises.specs.Odd.{lineOdd}
+use Rattle.promises.specs.Odd.{lineOdd, comesAlways}
 use Rattle.promises.specs.Spelt.{spelt}
 
 -- `Record::parse_line` accepted the line s as the record r, and `Table::parse` handed t over for it.
@@ -34,8 +34,8 @@ pub record Reprints (s : List ℕ) (m : Res (List ℕ)) : Type 0 where
   pub back : lineOdd s ≡ false → Back s m
   -- An odd line never does.
   pub odd : lineOdd s ≡ true → m ≡ ok s → ⊥
-  -- H lines always come back.
-  pub headers : byte 0 s ≡ code "H" → Back s m
+  -- H lines always come back, and D, G and L lines too.
+  pub always : comesAlways (byte 0 s) ≡ true → Back s m
 
 -- `print_record` prints `recordText` of the record, its table and its line.
 abbrev pub ComesBack : Type 0
@@ -68,8 +68,10 @@ pub record Needed : Type 0 where
   pub definitions : reprinted (spelt "I+13638FXA") ≡ ok (spelt "I013638FXA")
   pub start : reprinted (spelt "I01+638FXA") ≡ ok (spelt "I010638FXA")
   pub end : reprinted (spelt "J0108+9HDT") ≡ ok (spelt "J010809HDT")
-  -- K lines.
+  -- K, E and F lines.
   pub data-time : reprinted (spelt "K10+53000270") ≡ ok (spelt "K10053000270")
+  pub event-time : reprinted (spelt "E+10530PEV") ≡ ok (spelt "E010530PEV")
+  pub satellites-time : reprinted (spelt "F1015+00607") ≡ ok (spelt "F1015000607")
   -- A height was `-0000`.
   pub pressure-zero : reprinted (spelt "B1015304712345N01102500EA-000001561")
       ≡ ok (spelt "B1015304712345N01102500EA0000001561")

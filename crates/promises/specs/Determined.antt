@@ -14,13 +14,19 @@ use Rattle.time.specs.Time.{timeRes}
 use Rattle.date.specs.Date.{dateRes}
 use Rattle.coord.specs.Coord.{latitudeRes, longitudeRes}
 use Rattle.position.specs.Position.{positionRes}
+use Rattle.satellites.specs.Satellites.{satellitesRes}
 use Rattle.extension.specs.Extension.{extensionRes}
 use Rattle.a_record.specs.ARecord.{aRes}
 use Rattle.b_record.specs.BRecord.{validRes, bRes}
 use Rattle.c_record.specs.CRecord.{declarationRes}
 use Rattle.c_turnpoint_record.specs.CTurnpoint.{turnpointRes}
+use Rattle.d_record.specs.DRecord.{qualifierRes, dRes}
+use Rattle.e_record.specs.ERecord.{eRes}
+use Rattle.f_record.specs.FRecord.{fRes}
+use Rattle.g_record.specs.GRecord.{gRes}
 use Rattle.h_record.specs.HRecord.{hRes}
 use Rattle.k_record.specs.KRecord.{kRes}
+use Rattle.l_record.specs.LRecord.{lRes}
 use Rattle.records.specs.Record.{readingRes}
 use Rattle.log.specs.Log.{Reader, LineRead}
 use Rattle.log.specs.Fold.{Carried}
@@ -44,14 +50,21 @@ pub record Determined : Type 1 where
   pub latitude : Tells latitudeRes
   pub longitude : Tells longitudeRes
   pub position : Tells positionRes
+  pub satellites : Tells satellitesRes
   pub extension : Tells extensionRes
   pub a : Tells aRes
   pub fix : Tells validRes
   pub b : Tells bRes
   pub declaration : Tells declarationRes
   pub turnpoint : Tells turnpointRes
+  pub qualifier : Tells qualifierRes
+  pub d : Tells dRes
+  pub e : Tells eRes
+  pub f : Tells fRes
+  pub g : Tells gRes
   pub h : Tells hRes
   pub k : Tells kRes
+  pub l : Tells lRes
   pub reading : Tells readingRes
   pub shows : {line r₁ r₂ : RefT (List ℕ)} {p : Part} → Shows line p r₁ → Shows line p r₂ →
       (now r₁ ≡ now r₂) × (r₁ .ptr ≡ r₂ .ptr)

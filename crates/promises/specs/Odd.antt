@@ -52,16 +52,20 @@ turnpointOdd s = positionPlus (cut 1 18 s)
 unfoldable pub tableOdd : List ℕ → Bool
 tableOdd s = plus (cut 1 3 s) ∨? defsPlus ((length s - 3) / 7) (drop 3 s)
 
--- K: the time 1-7.
-unfoldable pub kOdd : List ℕ → Bool
-kOdd s = threePlus (cut 1 7 s)
+-- E, F and K: the time 1-7.
+unfoldable pub timedOdd : List ℕ → Bool
+timedOdd s = threePlus (cut 1 7 s)
 
--- A line, by its first byte. H lines, and lines that are not taken or not recognised, are never odd.
+-- A line, by its first byte. D, G, H and L lines, and lines that are not recognised, are never odd.
 unfoldable pub lineOdd : List ℕ → Bool
 lineOdd s =
     pick (byte 0 s =? code "A") (letterForm s)
     (pick (byte 0 s =? code "B") (fixOdd s)
     (pick (byte 0 s =? code "C") (pick (turns s) (turnpointOdd s) (declarationOdd s))
     (pick ((byte 0 s =? code "I") ∨? (byte 0 s =? code "J")) (tableOdd s)
-    (pick (byte 0 s =? code "K") (kOdd s)
+    (pick ((byte 0 s =? code "E") ∨? (byte 0 s =? code "F") ∨? (byte 0 s =? code "K")) (timedOdd s)
     false))))
+
+-- The first bytes of lines that always come back: D, G, H and L.
+unfoldable pub comesAlways : ℕ → Bool
+comesAlways b = (b =? code "D") ∨? (b =? code "G") ∨? (b =? code "H") ∨? (b =? code "L")

@@ -5,6 +5,7 @@ use Rattle.date.specs.Date.{readDate}
 use Rattle.time.specs.Time.{readTime}
 use Rattle.coord.specs.Coord.{readLatitude, readLongitude}
 use Rattle.position.specs.Position.{readPosition}
+use Rattle.satellites.specs.Satellites.{readSatellites}
 use Rattle.extension.specs.Extension.{readExtension}
 use Rattle.records.specs.Record.{readLine}
 
@@ -27,5 +28,6 @@ pub record Placed : Type 1 where
   pub latitude : Points readLatitude
   pub longitude : Points readLongitude
   pub position : Points readPosition
+  pub satellites : Points readSatellites
   pub definition : Points readExtension
   pub line : Points readLine

@@ -17,11 +17,15 @@ pub fn print_record(rec: Record, table: Table, line: &[u8], buf: &mut [u8]) -> P
         Record::B(b) => b.print(line, buf),
         Record::CDeclaration(task) => task.print(line, buf),
         Record::CTurnpoint(point) => point.print(line, buf),
+        Record::D(d) => d.print(line, buf),
+        Record::E(e) => e.print(line, buf),
+        Record::F(f) => f.print(line, buf),
+        Record::G(g) => g.print(line, buf),
         Record::H(h) => h.print(line, buf),
         Record::I => table.print(b'I', buf),
         Record::J => table.print(b'J', buf),
         Record::K(k) => k.print(line, buf),
-        Record::NotTaken(part) => print_part(part, line, buf),
+        Record::L(l) => l.print(line, buf),
         Record::Unrecognised(other) => print_part(other, line, buf),
     }
 }
@@ -37,11 +41,15 @@ pub fn put_record(buf: &mut [u8], at: usize, rec: Record, table: Table, line: &[
         Record::B(b) => b.put_piece(buf, at, line),
         Record::CDeclaration(task) => task.put_piece(buf, at, line),
         Record::CTurnpoint(point) => point.put_piece(buf, at, line),
+        Record::D(d) => d.put_piece(buf, at, line),
+        Record::E(e) => e.put_piece(buf, at, line),
+        Record::F(f) => f.put_piece(buf, at, line),
+        Record::G(g) => g.put_piece(buf, at, line),
         Record::H(h) => h.put_piece(buf, at, line),
         Record::I => table.put_piece(buf, at, b'I'),
         Record::J => table.put_piece(buf, at, b'J'),
         Record::K(k) => k.put_piece(buf, at, line),
-        Record::NotTaken(part) => put_part(buf, at, line, part),
+        Record::L(l) => l.put_piece(buf, at, line),
         Record::Unrecognised(other) => put_part(buf, at, line, other),
     }
 }

@@ -10,9 +10,16 @@ use Rattle.b_record.specs.BRecord.{validLetter}
 use Rattle.b_record.specs.declared.BRecord.{BRecord}
 use Rattle.c_record.specs.declared.CRecordDeclaration.{CRecordDeclaration}
 use Rattle.c_turnpoint_record.specs.declared.CRecordTurnpoint.{CRecordTurnpoint}
+use Rattle.satellites.specs.Satellites.{countOf}
+use Rattle.d_record.specs.DRecord.{qualifierLetter}
+use Rattle.d_record.specs.declared.DRecord.{DRecord}
+use Rattle.e_record.specs.declared.ERecord.{ERecord}
+use Rattle.f_record.specs.declared.FRecord.{FRecord}
+use Rattle.g_record.specs.declared.GRecord.{GRecord}
 use Rattle.h_record.specs.HRecord.{sourceByte}
 use Rattle.h_record.specs.declared.HRecord.{HRecord}
 use Rattle.k_record.specs.declared.KRecord.{KRecord}
+use Rattle.l_record.specs.declared.LRecord.{LRecord}
 use Rattle.records.specs.declared.Record.{Record}
 use Rattle.held.specs.declared.{Held.Held, tables.Tables.Tables}
 use Rattle.log.specs.Fold.{texts}
@@ -56,10 +63,30 @@ declarationShown r = dateShown (r .date) ++ (timeShown (r .time) ++ (flightShown
 unfoldable pub turnpointShown : CRecordTurnpoint → List ℕ
 turnpointShown r = positionShown (r .position) ++ maybeShown (r .«turnpoint_name»)
 
+-- The qualifier byte, station.
+unfoldable pub dShown : DRecord → List ℕ
+dShown r = byteShown (qualifierLetter (r .qualifier)) ++ partShown (r .«station_id»)
+
+-- Time, code, text.
+unfoldable pub eShown : ERecord → List ℕ
+eShown r = timeShown (r .time) ++ (partShown (r .mnemonic) ++ maybeShown (r .text))
+
+-- Time, how many different satellites, the list.
+unfoldable pub fShown : FRecord → List ℕ
+fShown r = timeShown (r .time) ++ (numberShown (countOf (r .satellites)) ++ partShown (r .list))
+
+-- The rest.
+unfoldable pub gShown : GRecord → List ℕ
+gShown r = partShown (r .«data»)
+
 -- The source byte, mnemonic, name, data.
 unfoldable pub hShown : HRecord → List ℕ
 hShown r = byteShown (sourceByte (r .«data_source»))
     ++ (partShown (r .mnemonic) ++ (maybeShown (r .«friendly_name») ++ partShown (r .«data»)))
+
+-- Source, text.
+unfoldable pub lShown : LRecord → List ℕ
+lShown r = partShown (r .source) ++ maybeShown (r .text)
 
 -- START-ENDNAME.
 unfoldable pub definitionShown : Extension → List ℕ
@@ -77,9 +104,13 @@ recordShown (Record.A r) t h names s = aShown r
 recordShown (Record.B r) t h names s = bShown r (h .i) names s
 recordShown (Record.CDeclaration r) t h names s = declarationShown r
 recordShown (Record.CTurnpoint r) t h names s = turnpointShown r
+recordShown (Record.D r) t h names s = dShown r
+recordShown (Record.E r) t h names s = eShown r
+recordShown (Record.F r) t h names s = fShown r
+recordShown (Record.G r) t h names s = gShown r
 recordShown (Record.H r) t h names s = hShown r
 recordShown Record.I t h names s = tableShown t
 recordShown Record.J t h names s = tableShown t
 recordShown (Record.K r) t h names s = kShown r (h .j) names s
-recordShown (Record.NotTaken p) t h names s = []
+recordShown (Record.L r) t h names s = lShown r
 recordShown (Record.Unrecognised p) t h names s = []

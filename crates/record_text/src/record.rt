@@ -3,16 +3,22 @@ ghost use Rattle.table.specs.Table.{defsOf};
 ghost use Rattle.put.specs.Put.{Wrote};
 ghost use Rattle.log.specs.Fold.{texts};
 ghost use Rattle.record_text.specs.Record.{aShown, fixShown, bShown, taskShown, declarationShown, turnpointShown};
-ghost use Rattle.record_text.specs.Record.{hShown, kShown, definitionShown, tableShown, recordShown};
+ghost use Rattle.record_text.specs.Record.{dShown, eShown, fShown, gShown, hShown, kShown, lShown};
+ghost use Rattle.record_text.specs.Record.{definitionShown, tableShown, recordShown};
 use a_record::ARecord;
 use b_record::BRecord;
 use c_record::CRecordDeclaration;
 use c_turnpoint_record::CRecordTurnpoint;
+use d_record::DRecord;
+use e_record::ERecord;
 use extension::Extension;
+use f_record::FRecord;
+use g_record::GRecord;
 use h_record::HRecord;
 use held::Held;
 use held::tables::Tables;
 use k_record::KRecord;
+use l_record::LRecord;
 use piece_text::piece::show_byte;
 use piece_text::piece::show_date;
 use piece_text::piece::show_flight;
@@ -135,6 +141,47 @@ fn show_turnpoint(buf: &mut [u8], at: usize, point: CRecordTurnpoint) -> usize
     show_maybe(buf, at_name, turnpoint_name)
 }
 
+// The qualifier's byte, station.
+fn show_d(buf: &mut [u8], at: usize, d: DRecord) -> usize
+    ensures { λ r. ⌜ Wrote (now (buf .entry)) at (dShown d) (now (buf .exit)) r ⌝ }
+{
+    let qualifier = d.qualifier;
+    let station_id = d.station_id;
+    let at_station = show_byte(buf, at, qualifier.letter());
+    show_part(buf, at_station, station_id)
+}
+
+// Time, code, text.
+fn show_e(buf: &mut [u8], at: usize, e: ERecord) -> usize
+    ensures { λ r. ⌜ Wrote (now (buf .entry)) at (eShown e) (now (buf .exit)) r ⌝ }
+{
+    let time = e.time;
+    let mnemonic = e.mnemonic;
+    let text = e.text;
+    let at_mnemonic = show_time(buf, at, time);
+    let at_text = show_part(buf, at_mnemonic, mnemonic);
+    show_maybe(buf, at_text, text)
+}
+
+// Time, how many different satellites, the list.
+fn show_f(buf: &mut [u8], at: usize, f: FRecord) -> usize
+    ensures { λ r. ⌜ Wrote (now (buf .entry)) at (fShown f) (now (buf .exit)) r ⌝ }
+{
+    let time = f.time;
+    let satellites = f.satellites;
+    let list = f.list;
+    let at_count = show_time(buf, at, time);
+    let at_list = show_number(buf, at_count, satellites.count() as u64);
+    show_part(buf, at_list, list)
+}
+
+fn show_g(buf: &mut [u8], at: usize, g: GRecord) -> usize
+    ensures { λ r. ⌜ Wrote (now (buf .entry)) at (gShown g) (now (buf .exit)) r ⌝ }
+{
+    let data = g.data;
+    show_part(buf, at, data)
+}
+
 // The source's byte as it is, mnemonic, name, data.
 fn show_h(buf: &mut [u8], at: usize, h: HRecord) -> usize
     ensures { λ r. ⌜ Wrote (now (buf .entry)) at (hShown h) (now (buf .exit)) r ⌝ }
@@ -147,6 +194,16 @@ fn show_h(buf: &mut [u8], at: usize, h: HRecord) -> usize
     let at_name = show_part(buf, at_short, mnemonic);
     let at_data = show_maybe(buf, at_name, friendly_name);
     show_part(buf, at_data, data)
+}
+
+// Source, text.
+fn show_l(buf: &mut [u8], at: usize, l: LRecord) -> usize
+    ensures { λ r. ⌜ Wrote (now (buf .entry)) at (lShown l) (now (buf .exit)) r ⌝ }
+{
+    let source = l.source;
+    let text = l.text;
+    let at_text = show_part(buf, at, source);
+    show_maybe(buf, at_text, text)
 }
 
 // START-ENDNAME.
@@ -201,11 +258,15 @@ pub fn show_record(
         Record::B(b) => show_b(buf, at, b, held.i, names, line),
         Record::CDeclaration(task) => show_declaration(buf, at, task),
         Record::CTurnpoint(point) => show_turnpoint(buf, at, point),
+        Record::D(d) => show_d(buf, at, d),
+        Record::E(e) => show_e(buf, at, e),
+        Record::F(f) => show_f(buf, at, f),
+        Record::G(g) => show_g(buf, at, g),
         Record::H(h) => show_h(buf, at, h),
         Record::I => show_table(buf, at, table),
         Record::J => show_table(buf, at, table),
         Record::K(k) => show_k(buf, at, k, held.j, names, line),
-        Record::NotTaken(_) => at,
+        Record::L(l) => show_l(buf, at, l),
         Record::Unrecognised(_) => at,
     }
 }

@@ -11,17 +11,23 @@ pub enum Class {
     ExceedsRest,
     SevenBytes,
     NotUtf8,
-    NotTaken,
+    Station,
+    OddList,
+    NoDigit,
+    Source,
 }
 
 impl Class {
-    pub const ALL: [Class; 6] = [
+    pub const ALL: [Class; 9] = [
         Class::Number,
         Class::LastFixedColumn,
         Class::ExceedsRest,
         Class::SevenBytes,
         Class::NotUtf8,
-        Class::NotTaken,
+        Class::Station,
+        Class::OddList,
+        Class::NoDigit,
+        Class::Source,
     ];
 
     pub fn title(self) -> &'static str {
@@ -31,7 +37,10 @@ impl Class {
             Class::ExceedsRest => "a value that exceeds the rest: panics, here 6",
             Class::SevenBytes => "a K line of seven bytes: SyntaxError, here read",
             Class::NotUtf8 => "a line that is not UTF-8: can't be asked, here read as bytes",
-            Class::NotTaken => "a D, E, F, G or L line: read or refused, here 11",
+            Class::Station => "a D line that is not ASCII: read or SyntaxError, here 2",
+            Class::OddList => "an F line whose list has an odd length, behind another fault: that one, here 1",
+            Class::NoDigit => "an F line whose list has a byte that is no digit: read, here 3",
+            Class::Source => "an L line with no source, or one that is not ASCII: read, here 1 or 2",
         }
     }
 }
@@ -98,7 +107,7 @@ impl Tally {
             How::Number if ours == row.text() => Class::Number,
             How::SevenBytes if self.same_but_lookups(row, ours) => Class::SevenBytes,
             How::NotUtf8 if is_by_bytes(row, ours) => Class::NotUtf8,
-            How::NotTaken if is_not_taken(row, ours) => Class::NotTaken,
+            How::Otherwise(class) if ours == row.text() => class,
             _ => return false,
         };
         self.count(class, 1, (row.line.len(), row.line.escape_ascii().to_string()));
@@ -159,11 +168,15 @@ fn kind(line: &[u8]) -> &'static str {
         Some(b'A') => "A",
         Some(b'B') => "B",
         Some(b'C') => "C",
+        Some(b'D') => "D",
+        Some(b'E') => "E",
+        Some(b'F') => "F",
+        Some(b'G') => "G",
         Some(b'H') => "H",
         Some(b'I') => "I",
         Some(b'J') => "J",
         Some(b'K') => "K",
-        Some(b'D' | b'E' | b'F' | b'G' | b'L') => "D E F G L",
+        Some(b'L') => "L",
         _ => "any other",
     }
 }
@@ -172,11 +185,6 @@ fn kind(line: &[u8]) -> &'static str {
 fn is_by_bytes(row: &Row, ours: &[u8]) -> bool {
     let high = |bytes: &[u8]| -> Vec<u8> { bytes.iter().copied().filter(|b| !b.is_ascii()).collect() };
     low(ours) == row.text() && (row.tail.is_empty() || high(ours) == high(row.line))
-}
-
-fn is_not_taken(row: &Row, ours: &[u8]) -> bool {
-    let words: Vec<&[u8]> = row.head.splitn(3, |&b| b == b' ').collect();
-    ours == [words[0], b" ", words[1], b" 11 =", row.line].concat().as_slice()
 }
 
 /// This reader's answers to the lookups of a row whose other parts are the same.

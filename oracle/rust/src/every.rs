@@ -5,13 +5,16 @@ use crate::logs::{Logs, LOG_SIZE};
 
 pub fn every(logs: &mut Logs) {
     numbers(logs);
+    repeats(logs);
     first_bytes(logs);
     makers(logs);
     verdicts(logs);
     columns(logs);
     lengths(logs);
     logs.part("three fields of a line, each at each edge");
-    for fields in [FIX, DECLARATION, TURNPOINT, DATA, I_DEFINITIONS, J_DEFINITIONS] {
+    for fields in
+        [FIX, DECLARATION, TURNPOINT, DATA, I_DEFINITIONS, J_DEFINITIONS, STATION, EVENT, SATELLITES, REMARK]
+    {
         three_edges(fields, &mut |line| logs.line(line));
     }
     parted(logs);
@@ -44,12 +47,16 @@ fn numbers(logs: &mut Logs) {
     // With a rest and without one, which is a class by itself.
     let data = "K101530090";
     let bare = "K101530";
-    let two_bytes: [(&str, &[usize]); 8] = [
+    let event = "E101530PEVtext";
+    let satellites = "F1015300102";
+    let two_bytes: [(&str, &[usize]); 10] = [
         (fix, &[1, 3, 5, 7]),
         (declaration, &[1, 3, 5, 7, 9, 11, 13, 15, 17]),
         (turnpoint, &[1]),
         (data, &[1, 3, 5]),
         (bare, &[1, 3, 5]),
+        (event, &[1, 3, 5]),
+        (satellites, &[1, 3, 5]),
         ("I00", &[1]),
         ("I013638FXA", &[1, 3, 5]),
         ("J013638FXA", &[1, 3, 5]),
@@ -60,6 +67,9 @@ fn numbers(logs: &mut Logs) {
             texts(logs, good, at, 2, &bytes);
         }
     }
+    logs.part("two bytes as a satellite");
+    texts(logs, satellites, 7, 2, &bytes);
+    texts(logs, satellites, 9, 2, &bytes);
     logs.part("two bytes as i8");
     texts(logs, declaration, 23, 2, &bytes);
     logs.part("three bytes as u8");
@@ -77,6 +87,12 @@ fn numbers(logs: &mut Logs) {
     logs.part("five of 0123456789+-x as i16");
     texts(logs, fix, 25, 5, marks);
     texts(logs, fix, 30, 5, marks);
+}
+
+/// Every row of up to six of these satellites, around both words of a set: repeats of each.
+fn repeats(logs: &mut Logs) {
+    logs.part("rows of satellites");
+    rows_of(&[b"00", b"07", b"63", b"64", b"99"], 6, &mut |list| logs.line(&[b"F101530", list].concat()));
 }
 
 fn first_bytes(logs: &mut Logs) {

@@ -1,8 +1,8 @@
 //! What no line reaches: fields by themselves, and records built by hand. The Rust alone is asked, so that the rows of
 //! docs/DIFFERENCES.md on them stay true; what this reader does there is proved.
 
-use igc::records::{ARecord, BRecord, CRecordDeclaration, CRecordTurnpoint, HRecord, IRecord, JRecord, KRecord};
-use igc::records::{Extendable, Extension, Record};
+use igc::records::{ARecord, BRecord, CRecordDeclaration, CRecordTurnpoint, DRecord, ERecord, FRecord, GRecord, HRecord};
+use igc::records::{Extendable, Extension, IRecord, JRecord, KRecord, LRecord, Record};
 use igc::util::{Compass::*, Date, RawLatitude, RawLongitude, RawPosition, Time};
 use std::fmt::Debug;
 use std::panic::{catch_unwind, UnwindSafe};
@@ -21,6 +21,13 @@ pub fn asked() -> Vec<Asked> {
         ("BRecord::parse of a fix with Z", "\"read\"", said(|| BRecord::parse(FIX).map_or("refused", |_| "read"))),
         ("CRecordDeclaration::parse of one with Z", "panics", said(|| CRecordDeclaration::parse(DECLARATION))),
         ("CRecordTurnpoint::parse of one with Z", "panics", said(|| CRecordTurnpoint::parse(TURNPOINT))),
+        ("DRecord::parse of Z1ABCD", "panics", said(|| DRecord::parse("Z1ABCD"))),
+        ("ERecord::parse of Z101530PEV", "panics", said(|| ERecord::parse("Z101530PEV"))),
+        ("FRecord::parse of Z101530", "\"read\"", said(|| FRecord::parse("Z101530").map_or("refused", |_| "read"))),
+        ("GRecord::parse of Z", "panics", said(|| GRecord::parse("Z"))),
+        ("GRecord::parse of nothing", "panics", said(|| GRecord::parse(""))),
+        ("LRecord::parse of ZPLT", "panics", said(|| LRecord::parse("ZPLT"))),
+        ("LRecord::parse of nothing", "panics", said(|| LRecord::parse(""))),
         ("HRecord::parse of ZFDTE230718", "panics", said(|| HRecord::parse("ZFDTE230718"))),
         ("IRecord::parse of Z00", "panics", said(|| IRecord::parse("Z00"))),
         ("JRecord::parse of Z00", "panics", said(|| JRecord::parse("Z00"))),

@@ -1,6 +1,6 @@
 //! Lines of each kind, and their fields at the edges.
 
-/// Lines that are accepted, of each kind and form, and some of the other letters.
+/// Lines that are accepted, of each kind and form, and some of no letter of a record.
 pub const GOOD: &[&str] = &[
     "AC00069",
     "AX12345FLIGHT:1",
@@ -24,11 +24,17 @@ pub const GOOD: &[&str] = &[
     "I033638FXA3940SIU4143ENL",
     "J00",
     "J010812HDT",
+    "D1ABCD",
     "D2ABCD",
+    "E101530PEV",
     "E101530PEVtext",
+    "F101530",
     "F1015300102",
+    "F101530006364990102636400",
+    "G",
     "Gsigned",
     "K10153000090",
+    "LPLT",
     "LXXX: text",
     "Zeta",
     "beta",
@@ -97,6 +103,21 @@ pub const DECLARATION: Fields = &[
 pub const TURNPOINT: Fields = &[&["C"], LATITUDE, THOUSANDTHS, NORTH, LONGITUDE, THOUSANDTHS, EAST, &["", "LBZ", "é"]];
 
 pub const DATA: Fields = &[&["K"], HOURS, MINUTES, SECONDS, &["090", "", "0", "é"]];
+
+pub const STATION: Fields =
+    &[&["D"], &["1", "2", "3", "0", "+", "é"], &["ABCD", "0000", "ABC", "ABCDE", "éCD", "ABé", ""]];
+
+pub const EVENT: Fields =
+    &[&["E"], HOURS, MINUTES, SECONDS, &["PEV", "001", "PE", "éV", "PEé"], &["", "text", "é"]];
+
+/// Around the two words of a set, a digit's neighbours, signs.
+const SATELLITE: &[&str] =
+    &["01", "02", "00", "63", "64", "99", "+1", "-1", "1+", " 1", "1x", "x1", "/0", ":0", "0/", "0:"];
+
+pub const SATELLITES: Fields =
+    &[&["F"], HOURS, MINUTES, SECONDS, SATELLITE, SATELLITE, &["", "12", "9", "é", "\u{7f}0"]];
+
+pub const REMARK: Fields = &[&["L"], &["PLT", "XXX", "PL", "P", "", "éT", "Pé"], &["", " text", "é"]];
 
 /// Around the last fixed column of a B line.
 pub const I_DEFINITIONS: Fields = &[

@@ -110,8 +110,11 @@ fn line(r: &mut Random) -> Vec<u8> {
         }
         73..=80 => table(r, 'I', 35),
         81..=86 => table(r, 'J', 7),
-        87..=92 => r.of(GOOD).as_bytes().to_vec(),
-        93..=95 => [vec![*r.of(b"DEFGL")], text(r, 40)].concat(),
+        87..=89 => r.of(GOOD).as_bytes().to_vec(),
+        90..=91 => [fields(r, EVENT), text(r, 20)].concat(),
+        92..=93 => [fields(r, SATELLITES), heard(r)].concat(),
+        94 => [fields(r, STATION), r.of(&["ABCD", "éCD", "0000"]).as_bytes().to_vec()].concat(),
+        95 => [vec![*r.of(b"DEFGL")], text(r, 40)].concat(),
         96..=97 => text(r, 40),
         _ => (0..r.below(60)).map(|_| r.byte(0, 255)).collect(),
     }
@@ -120,6 +123,14 @@ fn line(r: &mut Random) -> Vec<u8> {
 /// What values are looked up in.
 fn rest(r: &mut Random, most: usize) -> Vec<u8> {
     (0..r.below(most + 1)).map(|_| r.byte(b' ', b'~')).collect()
+}
+
+/// Satellites, some of them again; now and then half of one is left over.
+fn heard(r: &mut Random) -> Vec<u8> {
+    let list: Vec<u8> = (0..r.below(16)).flat_map(|_| format!("{:02}", r.below(100)).into_bytes()).collect();
+    let again = list[..list.len() / 2 / 2 * 2].to_vec();
+    let left = if r.once_in(20) { b"7".to_vec() } else { Vec::new() };
+    [list, again, left].concat()
 }
 
 /// Digits, letters, marks, and now and then something else.

@@ -88,6 +88,36 @@ const FIRST: &[&str] = &[
     "K1015300123456789012345678901234567890123456789012345678901234567890123456789012345678901234567890",
     "K10153001234567890123456789012345678901234567890123456789012345678901234567890123456789012345678901",
     "K101530012345678901234567890123456789012345678901234567890123456789012345678901234567890123456789012",
+    // Events, satellites, stations, remarks, signatures.
+    "E101530PEV",
+    "E101530PEVtext",
+    "E101530PEé",
+    "E101530PEVé",
+    "E10153PEV",
+    "E1015x0PEV",
+    "E246060PEV",
+    "E250000PEV",
+    "E+1+2+3PEV",
+    "F101530",
+    "F1015300102030405",
+    "F1015300101010101",
+    "F101530636400990063",
+    "F10153",
+    "F101530010",
+    "F1015x00102",
+    "F246060",
+    "F2561600102",
+    "F101530é",
+    "D1ABCD",
+    "D2ABCD",
+    "D3ABCD",
+    "D1ABC",
+    "D1ABCDE",
+    "G",
+    "Gé",
+    "LPLT",
+    "LPLT text",
+    "LPLTé",
     "Z\r",
     "\r",
     "é",
@@ -156,7 +186,7 @@ fn sample() -> Vec<Vec<u8>> {
         let bounds = [1, 2, 3, 5, 6, 7, 8, 9, 10, 17, 18, 24, 25, 34, 35, good.len()];
         sample.extend(bounds.iter().filter(|&&len| len <= good.len()).map(|&len| good.as_bytes()[..len].to_vec()));
     }
-    for fields in [FIX, DECLARATION, TURNPOINT, DATA] {
+    for fields in [FIX, DECLARATION, TURNPOINT, DATA, STATION, EVENT, SATELLITES, REMARK] {
         sample.extend(one_edge(fields));
     }
     for line in [one_edge(I_DEFINITIONS), one_edge(J_DEFINITIONS)].concat() {

@@ -3,9 +3,11 @@
 //! Glue, and not the Rust's: cutting lines, the tables in force, lookup by name (the first definition of that name), by
 //! the book, lookups on an empty rest of a K line.
 
+use crate::compare::Class;
 use igc::records::{DataSource, Extendable, Extension, FixValid, KRecord, Record};
 use igc::util::{Compass, Date, ParseError, RawCoord, RawPosition, Time};
 use self::Kind::{I16, I8, U16, U8};
+use std::collections::BTreeSet;
 use std::io::Write;
 use std::panic::{catch_unwind, RefUnwindSafe};
 
@@ -19,8 +21,8 @@ pub enum How {
     Number,
     /// A K line of seven bytes, which the Rust refuses; the row is that of the line with one more, and then without it.
     SevenBytes,
-    /// D, E, F, G or L; the row says what the Rust did.
-    NotTaken,
+    /// A D, F or L line that the Rust reads otherwise than the paper, in this class; the row says what the paper says.
+    Otherwise(Class),
     /// Not UTF-8; the row is that of the line with `~` in place of each byte from 128 up.
     NotUtf8,
 }
@@ -134,9 +136,7 @@ fn row<'l>(number: usize, line: &'l [u8], tables: &mut Tables<'l>, names: &[Name
             } else {
                 read(std::str::from_utf8(&low(line)).unwrap(), &mut row);
             }
-            if row.how != How::NotTaken {
-                row.how = How::NotUtf8;
-            }
+            row.how = How::NotUtf8;
         }
     }
     row
@@ -168,11 +168,38 @@ fn fails_ascii(line: &[u8]) -> bool {
             let columns = if matches!(line[8], b'N' | b'S') { 18 } else { 25 };
             len >= columns && high(0, columns)
         }
+        // The Rust has no such test of D and L lines, and makes that of F lines before it looks at the list's length: see
+        // `otherwise`.
+        Some(b'D') => len == 6 && high(0, len),
+        Some(b'E') => len >= 10 && high(0, 10),
+        Some(b'F') => len >= 7 && !odd_list(line) && high(0, len),
         Some(b'H') => len >= 6 && high(0, 5),
         Some(b'I' | b'J') => len >= 3 && high(0, len),
         // The Rust refuses one of seven bytes before its test; of such it is asked with one more (`seven`).
         Some(b'K') => len >= 7 && high(0, len),
+        Some(b'L') => len >= 4 && high(0, 4),
         _ => false,
+    }
+}
+
+/// The list of an F line that is long enough for its time has an odd length.
+fn odd_list(line: &[u8]) -> bool {
+    line.len() >= 7 && line[7..].len() % 2 == 1
+}
+
+/// What the paper says of a D, F or L line that the Rust reads otherwise: the class, the answer, and whether the Rust did
+/// there what docs/DIFFERENCES.md has of it.
+fn otherwise(text: &str, asked: &Result<Record, ParseError>) -> Option<(Class, String, bool)> {
+    let line = text.as_bytes();
+    let said = asked.as_ref().map_or_else(|error| refusal(error, text), |_| "0");
+    let no_digit = || line[7..].iter().position(|b| !b.is_ascii_digit());
+    match line.first()? {
+        b'D' if line.len() == 6 && !line.is_ascii() => Some((Class::Station, "2".into(), matches!(said, "0" | "1"))),
+        b'F' if odd_list(line) && said != "1" => Some((Class::OddList, "1".into(), matches!(said, "2" | "3" | "4"))),
+        b'F' if said == "0" => no_digit().map(|n| (Class::NoDigit, format!("3@{}", 7 + n), true)),
+        b'L' if line.len() < 4 => Some((Class::Source, "1".into(), said == "0")),
+        b'L' if !line[..4].is_ascii() => Some((Class::Source, "2".into(), said == "0")),
+        _ => None,
     }
 }
 
@@ -206,9 +233,9 @@ fn read<'t>(text: &'t str, row: &mut Row) -> Option<Record<'t>> {
             return None;
         }
     };
-    if matches!(text.as_bytes().first(), Some(b'D' | b'E' | b'F' | b'G' | b'L')) {
-        row.how = How::NotTaken;
-        row.head.extend(if asked.is_ok() { b"read".as_slice() } else { b"refused" });
+    if let Some((class, answer, listed)) = otherwise(text, &asked) {
+        row.how = How::Otherwise(class);
+        row.head.extend(if listed { answer.as_bytes() } else { b"glue:otherwise" });
         return None;
     }
     if fails_ascii(text.as_bytes()) != matches!(asked, Err(ParseError::NonASCIICharacters)) {
@@ -265,7 +292,7 @@ fn place(line: &[u8]) -> usize {
             (1, 2, U8), (3, 2, U8), (5, 2, U8), (7, 2, U8), (9, 2, U8), (11, 2, U8),
             (13, 2, U8), (15, 2, U8), (17, 2, U8), (19, 4, U16), (23, 2, I8),
         ],
-        b'K' => &[(1, 2, U8), (3, 2, U8), (5, 2, U8)],
+        b'E' | b'F' | b'K' => &[(1, 2, U8), (3, 2, U8), (5, 2, U8)],
         _ => return table_place(line),
     };
     numbers.iter().find_map(|&(at, width, kind)| refused(line, at, width, kind)).expect("an unreadable number")
@@ -327,6 +354,21 @@ fn accepted(line: &str, record: &Record, row: &mut Row) {
             book = position_book(&c.position);
             write!(head, "{} {}", position(&c.position), maybe(&c.turnpoint_name))
         }
+        Record::D(d) => {
+            // The type of the qualifier has no name outside of the Rust's crate.
+            let qualifier = if format!("{:?}", d.qualifier) == "Gps" { '1' } else { '2' };
+            write!(head, "{} {}", qualifier, part(d.station_id))
+        }
+        Record::E(e) => {
+            book = time_book(&e.time);
+            write!(head, "{} {} {}", time(&e.time), part(e.mnemonic), maybe(&e.text))
+        }
+        Record::F(f) => {
+            book = time_book(&f.time);
+            let different: BTreeSet<&str> = f.satellites.iter().collect();
+            write!(head, "{} {} 7+{}", time(&f.time), different.len(), line.len() - 7)
+        }
+        Record::G(g) => write!(head, "{}", part(g.data)),
         Record::H(h) => {
             let source = match h.data_source {
                 DataSource::FVU => b'F',
@@ -342,7 +384,12 @@ fn accepted(line: &str, record: &Record, row: &mut Row) {
             book = time_book(&k.time);
             write!(head, "{} {}", time(&k.time), part(k.extension_string()))
         }
-        _ => write!(head, "glue:kind"),
+        Record::L(l) => {
+            // One text in the Rust.
+            let text = Some(&l.log_string[3..]).filter(|text| !text.is_empty());
+            write!(head, "{} {}", part(&l.log_string[..3]), maybe(&text))
+        }
+        Record::Unrecognised(_) => write!(head, "glue:kind"),
     }
     .unwrap();
     write!(row.tail, " {} ={}", if book { 'y' } else { 'n' }, record).unwrap();

@@ -2,7 +2,7 @@ use Rattle.text.specs.Prelude.{ℕ, _≤_, _≡_, true, false, List, length, no
 use Rattle.text.proofs.Prelude.{needs, refl, sym, _∙_, came, on, off, pass, stop, first, second, yes≤, no≤}
 use Rattle.c_record.specs.CRecord.{turns, readDeclaration, declarationRes}
 use Rattle.c_turnpoint_record.specs.CTurnpoint.{readTurnpoint, turnpointRes}
-use Rattle.records.specs.Record.{readC}
+use Rattle.records.specs.Record.{readC, readKind}
 use Rattle.records.proofs.parse_c.Statement.{statement}
 use Rattle.records.proofs.parse_c.Tie as tie
 
@@ -31,7 +31,7 @@ no-task : (c : tie.After-no-task) → no (c .no-task .given .0 .0) ≡ readDecla
 no-task c = came declarationRes (c .no-task .given .1) (c .before .before .parse2 .ensures)
 
 pub parse-c-spec : {M : Type 1} → statement M
-unfolding readC
+unfolding readC readKind
 parse-c-spec =
     tie.close
     (tie.spec

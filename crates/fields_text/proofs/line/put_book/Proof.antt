@@ -7,7 +7,7 @@ use Rattle.fields_text.specs.Line.{bookShown}
 use Rattle.fields_text.proofs.line.put_book.Statement.{statement}
 use Rattle.fields_text.proofs.line.put_book.Tie as tie
 
--- a line answered 11 or 12
+-- a line answered 12
 unread : (c : tie.Then1) → [] ≡ bookShown (c .before .before .before .args .rec)
 unfolding bookShown
 unread c = second _ (no= (λ e. c .if1 .taken (c .before .number .ensures ∙ e))) refl

@@ -9,7 +9,7 @@ number-spec =
     tie.close
     (tie.spec
     (search needs) (search needs) (search needs) (search needs) (search needs) (search needs) (search needs)
-    (search needs) (search needs) (search needs)
+    (search needs) (search needs) (search needs) (search needs) (search needs) (search needs) (search needs)
     (λ c. rw (c .enum-told .given .1))
     (λ c. rw (c .enum-told2 .given .1))
     (λ c. rw (c .enum-told3 .given .1))
@@ -19,4 +19,8 @@ number-spec =
     (λ c. rw (c .enum-told7 .given .1))
     (λ c. rw (c .enum-told8 .given .1))
     (λ c. rw (c .enum-told9 .given .1))
-    (λ c. rw (c .enum-told10 .given .1)))
+    (λ c. rw (c .enum-told10 .given .1))
+    (λ c. rw (c .enum-told11 .given .1))
+    (λ c. rw (c .enum-told12 .given .1))
+    (λ c. rw (c .enum-told13 .given .1))
+    (λ c. rw (c .enum-told14 .given .1)))

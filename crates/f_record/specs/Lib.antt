@@ -1,0 +1,2 @@
+pub mod FRecord
+pub mod Heard

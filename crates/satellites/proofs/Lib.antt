@@ -1,0 +1,5 @@
+pub mod Words
+pub mod Sets
+pub mod Different
+pub mod Reading
+pub mod Answers
