@@ -8,7 +8,7 @@ use Rattle.text.proofs.RoundTrip.{int-columns}
 use Rattle.text.proofs.Lines.{cut-length}
 use Rattle.field.specs.Field.{asciiIn, ascii}
 use Rattle.b_record.specs.BRecord.{readHeights, readFix, readB}
-use Rattle.records.specs.Record.{kindOf, readC, readKind, readLine, recordFix, answerFix, acceptedAs}
+use Rattle.records.specs.Record.{kindOf, readC, readKind, readLine, recordFix, answerFix, acceptedAs, answered}
 use Rattle.records.specs.declared.Record.{Record}
 use Rattle.log.specs.Line.{lineText}
 use Rattle.log.specs.Log.{chunks, readFrom, readings}
@@ -16,7 +16,6 @@ use Rattle.log.specs.Fold.{over, texts, Carried, fresh, pastLine}
 use Rattle.log.proofs.Chunks.{total, total-chunks, chunks-le}
 use Rattle.held.specs.declared.tables.Tables.{Tables}
 use Rattle.walk.specs.Readings.{reader}
-use Rattle.trailer_text.specs.Answer.{answered}
 use Rattle.trailer_text.specs.Trailer.{nothing, countStep, offsetText, trailerText}
 use Rattle.trailer_text.specs.declared.Trailer.{Trailer}
 use Rattle.trailer_text.proofs.Room.{plain-le, picked-has, Fits, trailer-le, line-fits}

@@ -2,10 +2,10 @@
 use Rattle.text.specs.Prelude.{ℕ, code, List, [], _∷_, _++_, Res, pick, _≤?_, _∧?_, LF, byte}
 use Rattle.b_record.specs.BRecord.{pressureText, gpsText}
 use Rattle.b_record.specs.declared.BRecord.{BRecord}
-use Rattle.records.specs.Record.{answerFix}
+use Rattle.records.specs.Record.{answerFix, answered}
 use Rattle.records.specs.declared.{Record.Record, MaybeFix.MaybeFix}
 use Rattle.records.specs.declared.MaybeFix.the-variants.{Missing, Fix}
-use Rattle.trailer_text.specs.Answer.{plain, answered}
+use Rattle.trailer_text.specs.Answer.{plain}
 
 -- The first byte if A to Z, else `-`.
 unfoldable pub firstLetter : List ℕ → ℕ

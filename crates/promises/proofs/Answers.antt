@@ -24,12 +24,24 @@ use Rattle.h_record.proofs.Answers.{h-undone}
 use Rattle.k_record.proofs.Answers.{k-undone}
 use Rattle.l_record.proofs.Answers.{l-undone}
 use Rattle.records.proofs.Answers.{reading-undone}
+use Rattle.report.proofs.Answers.{reportMade, report-undone}
+use Rattle.reported.specs.Reported.{SoFar}
+use Rattle.reported.specs.declared.Sofar.{Sofar}
+use Rattle.total.proofs.Answers.{totalMade, addedMade, total-undone, added-undone}
 use Rattle.bench_loops.specs.Timed.{Out}
 use Rattle.promises.specs.Determined.{Tells, Determined}
 
 -- a view from which the answer can be made again tells
 tells : {A E : Type 0} (view : E → Res A) (f : A → E) (g : Refusal → E) → ((r : E) → made f g (view r) ≡ r) → Tells view
 tells view f g undone r q e = told view f g undone e refl
+
+-- the same of a view into another type
+tells-as : {A E : Type 0} {view : E → A} (f : A → E) → ((r : E) → f (view r) ≡ r) → Tells view
+tells-as f undone r q e = sym (undone r) ∙ ap f e ∙ undone q
+
+-- the code's report so far, with the place of the next line
+abbrev soFarMade : SoFar → Sofar
+soFarMade c = record { report = reportMade (c .figures); place = c .place }
 
 -- each way of stating an answer
 pub determined : Determined
@@ -61,6 +73,10 @@ determined = record {
   k = tells _ _ _ k-undone;
   l = tells _ _ _ l-undone;
   reading = tells _ _ _ reading-undone;
+  report = tells-as reportMade report-undone;
+  so-far = tells-as soFarMade (λ c. rw (report-undone (c .report)));
+  total = tells-as totalMade total-undone;
+  added = tells-as addedMade added-undone;
   shows = shows-one;
   wrote = wrote-one;
   prints = prints-one;

@@ -28,13 +28,16 @@ use Rattle.h_record.specs.HRecord.{hRes}
 use Rattle.k_record.specs.KRecord.{kRes}
 use Rattle.l_record.specs.LRecord.{lRes}
 use Rattle.records.specs.Record.{readingRes}
+use Rattle.report.specs.Report.{figuresIn}
+use Rattle.reported.specs.Reported.{soFarIn}
+use Rattle.total.specs.Total.{totalIn, addedIn}
 use Rattle.log.specs.Log.{Reader, LineRead}
 use Rattle.log.specs.Fold.{Carried}
 use Rattle.log.specs.Taking.{Took}
 use Rattle.bench_loops.specs.Timed.{Out}
 
 -- Two answers with one view are equal.
-abbrev pub Tells : {A E : Type 0} → (E → Res A) → Type 0
+abbrev pub Tells : {A E : Type 0} → (E → A) → Type 0
 Tells {A} {E} view = (r q : E) → view r ≡ view q → r ≡ q
 
 -- Whatever form a contract takes, two answers that it permits are equal.
@@ -66,6 +69,10 @@ pub record Determined : Type 1 where
   pub k : Tells kRes
   pub l : Tells lRes
   pub reading : Tells readingRes
+  pub report : Tells figuresIn
+  pub so-far : Tells soFarIn
+  pub total : Tells totalIn
+  pub added : Tells addedIn
   pub shows : {line r₁ r₂ : RefT (List ℕ)} {p : Part} → Shows line p r₁ → Shows line p r₂ →
       (now r₁ ≡ now r₂) × (r₁ .ptr ≡ r₂ .ptr)
   pub wrote : {b t b₁ b₂ : List ℕ} {at r₁ r₂ : ℕ} → Wrote b at t b₁ r₁ → Wrote b at t b₂ r₂ → (r₁ ≡ r₂) × (b₁ ≡ b₂)

@@ -1,4 +1,3 @@
-pub mod Spelt
 pub mod Odd
 pub mod Back
 pub mod Starred

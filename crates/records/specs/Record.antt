@@ -156,6 +156,11 @@ acceptedAs (Record.K r) = 0
 acceptedAs (Record.L r) = 0
 acceptedAs (Record.Unrecognised p) = 12
 
+-- The paper's number of the answer to a line.
+unfoldable pub answered : Res Record → ℕ
+answered (ok r) = acceptedAs r
+answered (no n) = numberOf n
+
 -- The paper's number of a reading.
 unfoldable pub answerOf : Reading → ℕ
 answerOf (Reading.Accepted r) = acceptedAs r

@@ -1,9 +1,10 @@
 -- The trailer: T, lines, lines answered 1 to 5, byte offset of the I line in force at the end, or `-`.
 use Rattle.text.specs.Prelude.{ℕ, _+_, code, Bool, List, [], _∷_, _++_, Res, pick, _≤?_, _=?_, _∧?_, LF, begins}
 use Rattle.text.specs.Prelude.{largest}
+use Rattle.records.specs.Record.{answered}
 use Rattle.records.specs.declared.Record.{Record}
 use Rattle.walk.specs.Readings.{Line-read}
-use Rattle.trailer_text.specs.Answer.{plain, answered}
+use Rattle.trailer_text.specs.Answer.{plain}
 use Rattle.trailer_text.specs.declared.{Offset.Offset, Trailer.Trailer}
 use Rattle.trailer_text.specs.declared.Offset.the-variants.{Missing, At}
 

@@ -12,6 +12,7 @@ use files::output::write_all;
 use files::say::fail;
 use files::say::tell;
 use products::Product;
+use sheets::season::run_season;
 use stream::run;
 
 // A line is at most this long.
@@ -155,6 +156,29 @@ fn is_fields(word: [u8; 8], n: usize) -> bool {
     word[5] == b's'
 }
 
+// The word is `season`.
+fn is_season(word: [u8; 8], n: usize) -> bool {
+    if n != 6 {
+        return false;
+    }
+    if word[0] != b's' {
+        return false;
+    }
+    if word[1] != b'e' {
+        return false;
+    }
+    if word[2] != b'a' {
+        return false;
+    }
+    if word[3] != b's' {
+        return false;
+    }
+    if word[4] != b'o' {
+        return false;
+    }
+    word[5] == b'n'
+}
+
 // A word of one digit names a descriptor; -1 is none.
 fn descriptor(word: [u8; 8], n: usize) -> i32 {
     if n != 1 {
@@ -188,11 +212,18 @@ fn run_from(at: usize, told: i32)
         run_fields(at, words, told);
         return;
     }
-    write_all(2, b"tokelivo: neither list nor fields is asked for\n");
+    if is_season(word, n) {
+        run_season(at + 1, told);
+        return;
+    }
+    write_all(
+        2,
+        b"tokelivo: none of list, fields and season is asked for\n",
+    );
 }
 
-// By the program's words: `list FILE`, or `fields FILE NAME..`. In front of them may stand a descriptor, as 3: where
-// nothing went wrong, 0 is written there.
+// By the program's words: `list FILE`, `fields FILE NAME..` or `season FILE..`. In front of them may stand a
+// descriptor, as 3: where nothing went wrong, 0 is written there.
 pub fn run_words() {
     let mut word = [0u8; 8];
     let n = os::arg(1, &mut word);

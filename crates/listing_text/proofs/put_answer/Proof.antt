@@ -1,7 +1,7 @@
 use Rattle.text.proofs.Prelude.{needs}
 use Rattle.put.proofs.Writing.{then}
 use Rattle.trailer_text.specs.Answer.{plain}
-use Rattle.trailer_text.proofs.Answers.{number-is}
+use Rattle.records.proofs.Answers.{number-is}
 use Rattle.listing_text.specs.Line.{answerText}
 use Rattle.listing_text.proofs.put_answer.Statement.{statement}
 use Rattle.listing_text.proofs.put_answer.Tie as tie

@@ -1,6 +1,6 @@
 use Rattle.text.proofs.Prelude.{needs, sym, yes≤, no≤, holds, fails, tested}
 use Rattle.trailer_text.specs.Trailer.{isRefusal}
-use Rattle.trailer_text.proofs.Answers.{number-is}
+use Rattle.records.proofs.Answers.{number-is}
 use Rattle.trailer_text.proofs.is_refusal.Statement.{statement}
 use Rattle.trailer_text.proofs.is_refusal.Tie as tie
 

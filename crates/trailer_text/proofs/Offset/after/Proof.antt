@@ -1,7 +1,7 @@
 use Rattle.text.specs.Prelude.{_≡_, true, now, begins}
 use Rattle.text.proofs.Prelude.{needs, refl, sym, _∙_, first, second, yes=, no=}
 use Rattle.trailer_text.specs.Trailer.{forceAfter}
-use Rattle.trailer_text.proofs.Answers.{number-is}
+use Rattle.records.proofs.Answers.{number-is}
 use Rattle.trailer_text.proofs.Offset.after.Statement.{statement}
 use Rattle.trailer_text.proofs.Offset.after.Tie as tie
 

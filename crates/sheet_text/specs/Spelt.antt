@@ -1,4 +1,4 @@
--- A text as the bytes of its ASCII characters, so that readings can be written as document 01 writes them.
+-- A text as the bytes of its ASCII characters, so that words can be written as the sheet has them.
 use Rattle.text.specs.Prelude.{ℕ, zero, suc, _+_, code, String, charAt, List, [], _∷_}
 use Prim.Native.String.{len}
 

@@ -1,0 +1,6 @@
+pub mod Ranges
+pub mod Counts
+pub mod Figures
+pub mod Reports
+pub mod Taking
+pub mod Answers

@@ -1,0 +1,4 @@
+pub mod Fixes
+pub mod Keeping
+pub mod Glances
+pub mod Pieces

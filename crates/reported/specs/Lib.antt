@@ -1,0 +1,4 @@
+pub mod Glance
+pub mod Flat
+pub mod Reported
+pub mod Laws

@@ -1,0 +1,6 @@
+// The program `season`: a block for each log that its words name, and one for all of them.
+use sheets::season::run_season;
+
+fn main() {
+    run_season(1, -1);
+}

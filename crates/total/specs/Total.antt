@@ -1,0 +1,156 @@
+-- The total of some logs: each figure by itself over the readings of all of them in order, and a log at a time.
+use Rattle.text.specs.Prelude.{ℕ, _+_, Bool, true, List, [], _∷_, _++_, map, length, Res, pick, _≤?_, _∧?_, largest}
+use lib.Signed.{ltZ}
+use Rattle.records.specs.declared.Record.{Record}
+use Rattle.log.specs.Log.{LineRead}
+use Rattle.report.specs.Range.{Range, none, between, rangeOf}
+use Rattle.report.specs.Counts.{byNumber, summed, added}
+use Rattle.report.specs.Figures.{Figures, earlier, empty, both}
+use Rattle.report.specs.Report.{answeredWith, fixesOf, shown, pressureAt, gpsAt, timeAt, timesIn}
+use Rattle.report.specs.declared.{pressure.PressurePeak.PressurePeak, gps.GpsPeak.GpsPeak}
+use Rattle.total.specs.declared.{pressure.PressureSpot.PressureSpot, pressure.PressureSpan.PressureSpan}
+use Rattle.total.specs.declared.{gps.GpsSpot.GpsSpot, gps.GpsSpan.GpsSpan}
+use Rattle.total.specs.declared.{Total.Total, Added.Added, Sums.Sums}
+
+-- How many logs, and the figures over all of them.
+pub record Totals : Type 0 where
+  pub logs : ℕ
+  pub figures : Figures PressureSpot GpsSpot
+
+-- ---- heights with their log
+
+-- A pressure height of the log n: its place is log number and byte offset.
+unfoldable pub pressureSpot : ℕ → PressurePeak → PressureSpot
+pressureSpot n p = record { log = n; place = p .place; height = p .height }
+
+-- A GPS height of the log n: its place is log number and byte offset.
+unfoldable pub gpsSpot : ℕ → GpsPeak → GpsSpot
+gpsSpot n p = record { log = n; place = p .place; height = p .height }
+
+-- The first pressure height is the lower, wherever the two were seen.
+unfoldable pub lowerPressure : PressureSpot → PressureSpot → Bool
+lowerPressure a b = ltZ (a .height .0) (b .height .0)
+
+-- The first GPS height is the lower, wherever the two were seen.
+unfoldable pub lowerGps : GpsSpot → GpsSpot → Bool
+lowerGps a b = ltZ (a .height .0) (b .height .0)
+
+-- ---- some logs
+
+-- What f shows of each log and its number, in order; the first has the number n.
+unfoldable pub inOrder : {L X : Type 0} → (ℕ → L → List X) → ℕ → List L → List X
+inOrder f n [] = []
+inOrder f n (xs ∷ logs) = f n xs ++ inOrder f (n + 1) logs
+
+-- Some logs, each as its readings.
+abbrev pub Logs : Type 0 → Type 0
+Logs T = List (List (LineRead (Res Record) T))
+
+module _ {T : Type 0} where
+  -- The pressure heights of the log n.
+  unfoldable pub pressureShown : ℕ → List (LineRead (Res Record) T) → List PressureSpot
+  pressureShown n xs = map (pressureSpot n) (shown pressureAt xs)
+
+  -- The GPS heights of the log n.
+  unfoldable pub gpsShown : ℕ → List (LineRead (Res Record) T) → List GpsSpot
+  gpsShown n xs = map (gpsSpot n) (shown gpsAt xs)
+
+  -- The times of a log, whatever its number.
+  unfoldable pub timeShown : ℕ → List (LineRead (Res Record) T) → List ℕ
+  timeShown n xs = shown timeAt xs
+
+  -- Their total; the first log has the number 1.
+  unfoldable pub totalOf : Logs T → Totals
+  totalOf logs = record {
+    logs = length logs;
+    figures = record {
+      lines = summed (map length logs);
+      answers = byNumber (λ n. summed (map (answeredWith n) logs));
+      fixes = summed (map fixesOf logs);
+      pressure = rangeOf lowerPressure (inOrder pressureShown 1 logs);
+      gps = rangeOf lowerGps (inOrder gpsShown 1 logs);
+      times = rangeOf earlier (inOrder timeShown 1 logs);
+    };
+  }
+
+-- ---- a log at a time
+
+-- The total of no logs.
+unfoldable pub noLogs : Totals
+noLogs = record { logs = 0; figures = empty }
+
+-- The same range of other things.
+unfoldable pub mapped : {P Q : Type 0} → (P → Q) → Range P → Range Q
+mapped f none = none
+mapped f (between high low) = between (f high) (f low)
+
+-- A log's report, its heights at places of the log n.
+unfoldable pub inLog : ℕ → Figures PressurePeak GpsPeak → Figures PressureSpot GpsSpot
+inLog n f = record {
+  lines = f .lines;
+  answers = f .answers;
+  fixes = f .fixes;
+  pressure = mapped (pressureSpot n) (f .pressure);
+  gps = mapped (gpsSpot n) (f .gps);
+  times = f .times;
+}
+
+-- With the report of one log more.
+unfoldable pub addOf : Totals → Figures PressurePeak GpsPeak → Totals
+addOf t f = record {
+  logs = t .logs + 1;
+  figures = both lowerPressure lowerGps (t .figures) (inLog (t .logs + 1) f);
+}
+
+-- Each of some counts fits 64 bits.
+unfoldable pub allFit : List ℕ → Bool
+allFit [] = true
+allFit (n ∷ ns) = (n ≤? largest) ∧? allFit ns
+
+-- Every count of a total fits 64 bits.
+unfoldable pub totalFits : Totals → Bool
+totalFits t = allFit (t .logs ∷ t .figures .lines ∷ t .figures .fixes ∷ t .figures .answers)
+
+-- Every count fits 64 bits with the report of one log more.
+unfoldable pub addFits : Totals → Figures PressurePeak GpsPeak → Bool
+addFits t f = totalFits (addOf t f)
+
+-- A total, and whether it has the log that was to be added.
+pub record Given : Type 0 where
+  pub total : Totals
+  pub fits : Bool
+
+-- The total with one log more where that fits, else the total as it was.
+unfoldable pub addRes : Totals → Figures PressurePeak GpsPeak → Given
+addRes t f = record { total = pick (addFits t f) (addOf t f) t; fits = addFits t f }
+
+-- Counts with those of a log more where they fit, else as they were.
+unfoldable pub sumsRes : List ℕ → List ℕ → Sums
+sumsRes ns ms =
+    let fit = allFit (added ns ms) in record { counts = pick fit (added ns ms) ns; fit = fit }
+
+-- ---- what the code holds
+
+abbrev pub pressureOver : PressureSpan → Range PressureSpot
+pressureOver PressureSpan.Missing = none
+pressureOver (PressureSpan.Between high low) = between high low
+
+abbrev pub gpsOver : GpsSpan → Range GpsSpot
+gpsOver GpsSpan.Missing = none
+gpsOver (GpsSpan.Between high low) = between high low
+
+abbrev pub totalIn : Total → Totals
+totalIn t = record {
+  logs = t .logs;
+  figures = record {
+    lines = t .lines;
+    answers = t .answers;
+    fixes = t .fixes;
+    pressure = pressureOver (t .pressure);
+    gps = gpsOver (t .gps);
+    times = timesIn (t .times);
+  };
+}
+
+abbrev pub addedIn : Added → Given
+addedIn a = record { total = totalIn (a .total); fits = a .fits }

@@ -1,0 +1,98 @@
+// Pressure heights over some logs, with their places. No place that wants a GPS height takes one.
+ghost use mathlib.Core.Path.{_≡_};
+ghost use Rattle.report.specs.Range.{higher, joined, turned};
+ghost use Rattle.report.specs.Report.{pressureIn};
+ghost use Rattle.total.specs.Total.{lowerPressure, mapped, pressureOver, pressureSpot};
+use b_record::PressureAlt;
+use report::pressure::PressurePeak;
+use report::pressure::PressureRange;
+
+// A height, and the log number, from 1, and the byte offset of the first fix that reached it.
+pub struct PressureSpot {
+    pub log: u64,
+    pub place: u64,
+    pub height: PressureAlt,
+}
+
+pub enum PressureSpan {
+    Missing,
+    Between {
+        high: PressureSpot,
+        low: PressureSpot,
+    },
+}
+
+impl PressureSpot {
+    // A height of that log.
+    fn in_log(log: u64, peak: PressurePeak) -> PressureSpot
+        ensures { λ r. ⌜ r ≡ pressureSpot log peak ⌝ }
+    {
+        let height = peak.height;
+        PressureSpot {
+            log,
+            place: peak.place,
+            height,
+        }
+    }
+
+    // By height alone.
+    fn below(self, other: PressureSpot) -> bool
+        ensures { λ r. ⌜ r ≡ lowerPressure self other ⌝ }
+    {
+        self.height.0 < other.height.0
+    }
+
+    // The higher of two, of equals the first.
+    fn higher(self, later: PressureSpot) -> PressureSpot
+        ensures { λ r. ⌜ r ≡ higher lowerPressure self later ⌝ }
+    {
+        if self.below(later) {
+            return later;
+        }
+        self
+    }
+
+    // The lower of two, of equals the first.
+    fn lower(self, later: PressureSpot) -> PressureSpot
+        ensures { λ r. ⌜ r ≡ higher (turned lowerPressure) self later ⌝ }
+    {
+        if later.below(self) {
+            return later;
+        }
+        self
+    }
+}
+
+impl PressureSpan {
+    // The heights of that log.
+    pub(crate) fn in_log(log: u64, range: PressureRange) -> PressureSpan
+        ensures { λ r. ⌜ pressureOver r ≡ mapped (pressureSpot log) (pressureIn range) ⌝ }
+    {
+        match range {
+            PressureRange::Missing => PressureSpan::Missing,
+            PressureRange::Between { high, low } => PressureSpan::Between {
+                high: PressureSpot::in_log(log, high),
+                low: PressureSpot::in_log(log, low),
+            },
+        }
+    }
+
+    // What was seen first, and what was seen later, as one.
+    pub(crate) fn join(self, later: PressureSpan) -> PressureSpan
+        ensures { λ r. ⌜ pressureOver r ≡ joined lowerPressure (pressureOver self) (pressureOver later) ⌝ }
+    {
+        match self {
+            PressureSpan::Missing => later,
+            PressureSpan::Between { high, low } => match later {
+                PressureSpan::Missing => self,
+                PressureSpan::Between {
+                    high: other_high,
+                    low: other_low,
+                } => PressureSpan::Between {
+                    high: high.higher(other_high),
+                    low: low.lower(other_low),
+                },
+            },
+        }
+    }
+}
