@@ -27,7 +27,7 @@ use Rattle.f_record.specs.FRecord.{readHeard, readF, fBody, fText}
 use Rattle.k_record.specs.KRecord.{readTimed, readK, kBody, kText}
 use Rattle.records.specs.Record.{kindOf, readC, readKind, readLine, recordTable}
 use Rattle.record_print.specs.Printed.{recordText, answerPrinted, reprinted}
-use Rattle.sheet_text.specs.Spelt.{speltFrom, spelt}
+use Rattle.text.specs.Spelt.{speltFrom, spelt}
 use Rattle.promises.specs.Back.{Needed}
 
 pub needed : Needed

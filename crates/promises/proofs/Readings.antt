@@ -20,7 +20,7 @@ use Rattle.c_record.specs.CRecord.{declarationText}
 use Rattle.h_record.specs.HRecord.{sourceByte, sourceOf, colonIn, named, readH}
 use Rattle.records.specs.Record.{kindOf, whole, readC, readKind, readLine, recordTable}
 use Rattle.record_print.specs.Printed.{recordText, answerPrinted, reprinted}
-use Rattle.sheet_text.specs.Spelt.{speltFrom, spelt}
+use Rattle.text.specs.Spelt.{speltFrom, spelt}
 use Rattle.promises.specs.Starred.{Starred}
 
 pub starred : Starred

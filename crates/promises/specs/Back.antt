@@ -10,7 +10,7 @@ use Rattle.records.specs.Record.{readLine, readingRes}
 use Rattle.records.specs.declared.{Record.Record, Reading.the-variants.Accepted}
 use Rattle.record_print.specs.Printed.{recordText, reprinted}
 use Rattle.promises.specs.Odd.{lineOdd, comesAlways}
-use Rattle.sheet_text.specs.Spelt.{spelt}
+use Rattle.text.specs.Spelt.{spelt}
 
 -- `Record::parse_line` accepted the line s as the record r, and `Table::parse` handed t over for it.
 pub record Parsed (s : List ℕ) (r : Record) (t : TableRead) : Type 0 where

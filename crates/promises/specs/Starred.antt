@@ -14,7 +14,7 @@ use Rattle.h_record.specs.declared.DataSource.the-variants.{FVU}
 use Rattle.records.specs.Record.{readLine}
 use Rattle.records.specs.declared.Record.{Record}
 use Rattle.record_print.specs.Printed.{reprinted}
-use Rattle.sheet_text.specs.Spelt.{spelt}
+use Rattle.text.specs.Spelt.{spelt}
 
 -- Each of them.
 pub record Starred : Type 0 where

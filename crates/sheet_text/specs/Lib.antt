@@ -1,2 +1,1 @@
-pub mod Spelt
 pub mod Sheet

@@ -6,7 +6,7 @@ use Rattle.report.specs.Figures.{Figures}
 use Rattle.report.specs.declared.{pressure.PressurePeak.PressurePeak, gps.GpsPeak.GpsPeak}
 use Rattle.total.specs.Total.{Totals}
 use Rattle.total.specs.declared.{pressure.PressureSpot.PressureSpot, gps.GpsSpot.GpsSpot}
-use Rattle.sheet_text.specs.Spelt.{spelt}
+use Rattle.text.specs.Spelt.{spelt}
 
 -- ---- lines
 

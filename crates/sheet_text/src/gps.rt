@@ -2,7 +2,7 @@
 ghost use Rattle.put.specs.Put.{Wrote};
 ghost use Rattle.report.specs.Report.{gpsIn};
 ghost use Rattle.total.specs.Total.{gpsOver};
-ghost use Rattle.sheet_text.specs.Spelt.{spelt};
+ghost use Rattle.text.specs.Spelt.{spelt};
 ghost use Rattle.sheet_text.specs.Sheet.{gpsPeakLine, gpsSpotLine, rangeLines};
 use crate::line::put_place;
 use crate::line::put_spot;

@@ -2,7 +2,7 @@
 ghost use Rattle.put.specs.Put.{Wrote};
 ghost use Rattle.report.specs.Report.{pressureIn};
 ghost use Rattle.total.specs.Total.{pressureOver};
-ghost use Rattle.sheet_text.specs.Spelt.{spelt};
+ghost use Rattle.text.specs.Spelt.{spelt};
 ghost use Rattle.sheet_text.specs.Sheet.{pressurePeakLine, pressureSpotLine, rangeLines};
 use crate::line::put_place;
 use crate::line::put_spot;

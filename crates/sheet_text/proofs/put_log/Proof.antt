@@ -1,6 +1,6 @@
 use Rattle.text.proofs.Prelude.{needs}
 use Rattle.put.proofs.Writing.{then}
-use Rattle.sheet_text.specs.Spelt.{speltFrom, spelt}
+use Rattle.text.specs.Spelt.{speltFrom, spelt}
 use Rattle.sheet_text.specs.Sheet.{logText}
 use Rattle.sheet_text.proofs.put_log.Statement.{statement}
 use Rattle.sheet_text.proofs.put_log.Tie as tie

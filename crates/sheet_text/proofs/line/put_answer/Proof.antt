@@ -1,7 +1,7 @@
 use Rattle.text.specs.Prelude.{pick}
 use Rattle.text.proofs.Prelude.{needs, arith, yes=, no=}
 use Rattle.put.proofs.Writing.{then, wrote-nothing}
-use Rattle.sheet_text.specs.Spelt.{speltFrom, spelt}
+use Rattle.text.specs.Spelt.{speltFrom, spelt}
 use Rattle.sheet_text.specs.Sheet.{answerLine}
 use Rattle.sheet_text.proofs.line.put_answer.Statement.{statement}
 use Rattle.sheet_text.proofs.line.put_answer.Tie as tie

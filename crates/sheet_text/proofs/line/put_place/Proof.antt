@@ -1,5 +1,5 @@
 use Rattle.text.proofs.Prelude.{needs}
-use Rattle.sheet_text.specs.Spelt.{speltFrom, spelt}
+use Rattle.text.specs.Spelt.{speltFrom, spelt}
 use Rattle.sheet_text.specs.Sheet.{atPlace}
 use Rattle.sheet_text.proofs.line.put_place.Statement.{statement}
 use Rattle.sheet_text.proofs.line.put_place.Tie as tie

@@ -1,6 +1,8 @@
--- A text as the bytes of its ASCII characters, so that words can be written as the sheet has them.
-use Rattle.text.specs.Prelude.{ℕ, zero, suc, _+_, code, String, charAt, List, [], _∷_}
-use Prim.Native.String.{len}
+-- A text as the bytes of its ASCII characters, so that words can be written as they stand.
+use Prim.Native.Nat.{ℕ, zero, suc, _+_}
+use Prim.Native.Char.{code}
+use Prim.Native.String.{String, charAt, len}
+use mathlib.Core.List.{List, [], _∷_}
 
 -- The characters of a text from a place on, as bytes.
 unfoldable pub speltFrom : ℕ → ℕ → String → List ℕ
