@@ -1,6 +1,5 @@
 // A log of any length taken into a report through a window of fixed size: it is read, cut behind the last line that is
 // whole, and these lines are taken; the rest waits for the next read.
-pub mod season;
 
 ghost use mathlib.Core.Path.{_≡_};
 ghost use mathlib.Core.Bool.{false};

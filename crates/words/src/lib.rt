@@ -12,7 +12,7 @@ use files::output::write_all;
 use files::say::fail;
 use files::say::tell;
 use products::Product;
-use sheets::season::run_season;
+use seasons::run_season;
 use stream::run;
 
 // A line is at most this long.

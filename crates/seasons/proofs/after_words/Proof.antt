@@ -1,7 +1,7 @@
 use Rattle.text.specs.Prelude.{_-_, _≡_, length}
 use Rattle.text.proofs.Prelude.{needs}
-use Rattle.sheets.proofs.season.after_words.Statement.{statement}
-use Rattle.sheets.proofs.season.after_words.Tie as tie
+use Rattle.seasons.proofs.after_words.Statement.{statement}
+use Rattle.seasons.proofs.after_words.Tie as tie
 
 -- the window stays as long as it is
 abbrev Inv-loop : tie.InvT-loop

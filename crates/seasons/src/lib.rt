@@ -1,7 +1,6 @@
 // A season: one log after the other, each with its block, and at last the block of all.
 ghost use mathlib.Core.Path.{_≡_};
 ghost use lib.ListN.{length};
-use crate::report_file;
 use files::input::open;
 use files::outcome::write_text;
 use files::output::write_all;
@@ -13,6 +12,7 @@ use put::put_bytes;
 use report::Report;
 use sheet_text::put_all;
 use sheet_text::put_log;
+use sheets::report_file;
 use total::Total;
 
 // The total so far; whether each log went into it; whether the sheet can still be written.
