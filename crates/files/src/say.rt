@@ -3,6 +3,7 @@
 ghost use mathlib.Core.Path.{_≡_};
 ghost use lib.ListN.{length};
 use crate::outcome::Outcome;
+use crate::outcome::write_text;
 use crate::output::write_all;
 use crate::terminal::make_visible;
 use print::number::put_nat;
@@ -33,8 +34,18 @@ pub fn fail(file: &[u8], what: &[u8]) {
     }
 }
 
-// What went wrong at a line of the log, by the number of lines before it.
-fn fail_at(file: &[u8], before: u64, what: &[u8]) {
+// Why a file is not taken, where errno has nothing to say.
+pub fn refuse(file: &[u8], why: &[u8]) {
+    let mut text = message_buffer();
+    let at_lf = put_start(&mut text, file, why);
+    let end = put_bytes(&mut text, at_lf, b"\n");
+    if end <= text.len() {
+        write_all(2, &text[0..end]);
+    }
+}
+
+// What went wrong at a line of a file, by the number of lines before it.
+pub fn fail_at(file: &[u8], before: u64, what: &[u8]) {
     let mut text = message_buffer();
     let at_number = put_start(&mut text, file, b"line ");
     if before < 0xffff_ffff_ffff_ffff {
@@ -60,4 +71,18 @@ pub fn tell(told: i32, file: &[u8], outcome: Outcome) {
         Outcome::NotWritten => fail(b"standard output", b"cannot be written"),
         Outcome::Closed => {}
     }
+}
+
+// Writes a text that ends there to standard output; where it cannot be written a sentence says so.
+pub fn write_block(text: &mut [u8], end: usize) -> bool {
+    if text.len() < end {
+        write_all(2, b"tokelivo: a block of the sheet has no room\n");
+        return false;
+    }
+    let outcome = write_text(1, &mut text[0..end]);
+    if outcome.has_failed() {
+        tell(-1, b"standard output", outcome);
+        return false;
+    }
+    true
 }

@@ -27,7 +27,9 @@ use Rattle.records.proofs.Answers.{reading-undone}
 use Rattle.report.proofs.Answers.{reportMade, report-undone}
 use Rattle.reported.specs.Reported.{SoFar}
 use Rattle.reported.specs.declared.Sofar.{Sofar}
-use Rattle.total.proofs.Answers.{totalMade, addedMade, total-undone, added-undone}
+use Rattle.total.proofs.Answers.{totalMade, addedMade, joinedMade, total-undone, added-undone, joined-undone}
+use Rattle.block_read.specs.Block.{Block}
+use Rattle.sheet_read.specs.Sheet.{Beside}
 use Rattle.bench_loops.specs.Timed.{Out}
 use Rattle.promises.specs.Determined.{Tells, Determined}
 
@@ -77,6 +79,13 @@ determined = record {
   so-far = tells-as soFarMade (λ c. rw (report-undone (c .report)));
   total = tells-as totalMade total-undone;
   added = tells-as addedMade added-undone;
+  joined = tells-as joinedMade joined-undone;
+  block =
+      tells-as (λ (b : Block). record { total = totalMade (b .total); end = b .end; good = b .good })
+      (λ r. rw (total-undone (r .total)));
+  sheet =
+      tells-as (λ (b : Beside). record { total = totalMade (b .total); verdict = b .verdict })
+      (λ r. rw (total-undone (r .total)));
   shows = shows-one;
   wrote = wrote-one;
   prints = prints-one;

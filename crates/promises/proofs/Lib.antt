@@ -20,3 +20,4 @@ pub mod Lines
 pub mod Shown
 pub mod Exceptions
 pub mod Places
+pub mod Halves

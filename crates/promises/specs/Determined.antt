@@ -30,7 +30,9 @@ use Rattle.l_record.specs.LRecord.{lRes}
 use Rattle.records.specs.Record.{readingRes}
 use Rattle.report.specs.Report.{figuresIn}
 use Rattle.reported.specs.Reported.{soFarIn}
-use Rattle.total.specs.Total.{totalIn, addedIn}
+use Rattle.total.specs.Total.{totalIn, addedIn, joinedIn}
+use Rattle.block_read.specs.Block.{blockRead}
+use Rattle.sheet_read.specs.Sheet.{sheetIn}
 use Rattle.log.specs.Log.{Reader, LineRead}
 use Rattle.log.specs.Fold.{Carried}
 use Rattle.log.specs.Taking.{Took}
@@ -73,6 +75,9 @@ pub record Determined : Type 1 where
   pub so-far : Tells soFarIn
   pub total : Tells totalIn
   pub added : Tells addedIn
+  pub joined : Tells joinedIn
+  pub block : Tells blockRead
+  pub sheet : Tells sheetIn
   pub shows : {line r₁ r₂ : RefT (List ℕ)} {p : Part} → Shows line p r₁ → Shows line p r₂ →
       (now r₁ ≡ now r₂) × (r₁ .ptr ≡ r₂ .ptr)
   pub wrote : {b t b₁ b₂ : List ℕ} {at r₁ r₂ : ℕ} → Wrote b at t b₁ r₁ → Wrote b at t b₂ r₂ → (r₁ ≡ r₂) × (b₁ ≡ b₂)

@@ -7,3 +7,4 @@ pub mod Walks
 pub mod Fields
 pub mod Determined
 pub mod Place
+pub mod Halves

@@ -2,10 +2,10 @@
 ghost use mathlib.Core.Path.{_≡_};
 ghost use lib.ListN.{length};
 use files::input::open;
-use files::outcome::write_text;
 use files::output::write_all;
 use files::say::fail;
 use files::say::tell;
+use files::say::write_block;
 use files::terminal::make_visible;
 use print::number::put_nat;
 use put::put_bytes;
@@ -27,20 +27,6 @@ fn window() -> [u8; 1048576]
     ensures { λ r. ⌜ 1048576 ≡ length r ⌝ }
 {
     [0; 1048576]
-}
-
-// Writes a block; where it cannot be written a sentence says so.
-fn write_block(out: &mut [u8], end: usize) -> bool {
-    if out.len() < end {
-        write_all(2, b"tokelivo: a block of the sheet has no room\n");
-        return false;
-    }
-    let outcome = write_text(1, &mut out[0..end]);
-    if outcome.has_failed() {
-        tell(-1, b"standard output", outcome);
-        return false;
-    }
-    true
 }
 
 // The log's number and its file, for whoever watches at a terminal.

@@ -1,39 +1,25 @@
--- What the code makes of one log more is what the definition makes of it.
-use Rattle.text.specs.Prelude.{ℕ, zero, suc, _+_, _≤_, _<_, _≡_, Bool, true, false, List, [], _∷_, length, take, set}
-use Rattle.text.specs.Prelude.{getD, pick, _≤?_, largest}
-use Rattle.text.proofs.Prelude.{arith, refl, sym, ap, _∙_, take-all, yes≤, no≤, holds, fails, both}
+-- What the code makes of two totals, and of a total and one log more, is what the definition makes of them.
+use Rattle.text.specs.Prelude.{ℕ, _+_, _≤_, _<_, _≡_, Bool, true, false, List, length, take, set}
+use Rattle.text.specs.Prelude.{getD, pick, _∧?_, largest}
+use Rattle.text.proofs.Prelude.{arith, sym, ap, _∙_, take-all, yes≤, holds, fails, by-test}
 use native.Mathlib.Numerals.{add-one}
 use lib.ListN.{length-set}
 use lib.Seq.{take-suc, take-suc-set}
-use Rattle.text.proofs.Prelude.{by-test}
 use Rattle.report.specs.Counts.{added}
 use Rattle.report.specs.Range.{Range, joined}
 use Rattle.report.specs.Figures.{Figures, earlier}
 use Rattle.report.specs.Figures as figures
 use Rattle.report.specs.declared.{pressure.PressurePeak.PressurePeak, gps.GpsPeak.GpsPeak}
 use Rattle.report.proofs.Counts.{getD-added, length-added}
-use Rattle.total.specs.Total.{Totals, pressureSpot, gpsSpot, lowerPressure, lowerGps, mapped, inLog, addOf}
-use Rattle.total.specs.Total.{allFit, totalFits, addFits, addRes, sumsRes}
+use Rattle.total.specs.Total.{Totals, lowerPressure, lowerGps, mapped, oneLog, addRes, allFit, totalFits}
+use Rattle.total.specs.Total.{laterPressure, laterGps, laterBy, joinOf, numbersOf, joinFits, refused}
+use Rattle.total.specs.Total.{joinRes, sumsRes, Beside, beside}
 use Rattle.total.specs.declared.{pressure.PressureSpot.PressureSpot, gps.GpsSpot.GpsSpot, Sums.Sums}
+use Rattle.total.proofs.Fits.{one-over, set-fit}
+use Rattle.total.proofs.Totals.{add-joins}
+use Rattle.total.proofs.Joining.{counts, logs-split, add-fits}
 
 -- ---- counts
-
-pub all-fit : (l : List ℕ) → ((i : ℕ) → getD l i 0 ≤ largest) → allFit l ≡ true
-unfolding allFit
-all-fit [] h = refl
-all-fit (n ∷ l) h = holds (yes≤ (h 0)) (all-fit l (λ i. h (suc i)))
-
-one-over : (l : List ℕ) (i : ℕ) → largest < getD l i 0 → allFit l ≡ false
-unfolding allFit
-one-over [] i h = absurd (omega arith)
-one-over (n ∷ l) zero h = fails _ (no≤ h)
-one-over (n ∷ l) (suc i) h = by-test (n ≤? largest) (λ e. holds e (one-over l i h)) (λ e. fails _ e)
-
-set-fit : (l : List ℕ) (i n : ℕ) → allFit l ≡ true → n ≤ largest → allFit (set l i n) ≡ true
-unfolding allFit
-set-fit [] i n e h = e
-set-fit (m ∷ l) zero n e h = holds (yes≤ h) (both e .1)
-set-fit (m ∷ l) (suc i) n e h = holds (both e .0) (set-fit l i n (both e .1) h)
 
 -- The first i sums are made, and all counts fit.
 pub record Made (ns ms all : List ℕ) (i : ℕ) : Type 0 where
@@ -83,52 +69,90 @@ module _ (ns ms : List ℕ) {sums : Sums} (are : sums ≡ sumsRes ns ms) where
   unfolding sumsRes pick
   counts-are h = ap (λ s. s .counts) are ∙ rw (fit-is h)
 
--- ---- one log more
+-- ---- two totals
 
-module _ (t : Totals) (f : Figures PressurePeak GpsPeak) where
-  pub logs-over : largest ≤ t .logs → addFits t f ≡ false
-  unfolding addFits totalFits addOf allFit
-  logs-over h = fails _ (no≤ (omega arith))
+-- the second test fails
+fails-next : (a : Bool) {b : Bool} → b ≡ false → (a ∧? b) ≡ false
+fails-next a e = by-test a (λ t. holds t e) (λ t. fails _ t)
 
-  module _ (logs : t .logs < largest) where
-    pub lines-over : largest < t .figures .lines + f .lines → addFits t f ≡ false
-    unfolding addFits totalFits addOf allFit figures.both inLog
-    lines-over h = holds (yes≤ (omega arith)) (fails _ (no≤ h))
+module _ (a b : Totals) where
+  abbrev sums : List ℕ
+  sums = added (a .figures .answers) (b .figures .answers)
 
-    module _ (lines : t .figures .lines + f .lines ≤ largest) where
-      pub fixes-over : largest < t .figures .fixes + f .fixes → addFits t f ≡ false
-      unfolding addFits totalFits addOf allFit figures.both inLog
-      fixes-over h = holds (yes≤ (omega arith)) (holds (yes≤ lines) (fails _ (no≤ h)))
+  abbrev later : Range PressureSpot
+  later = mapped (laterPressure (a .logs)) (b .figures .pressure)
 
-      -- the rest is whether the sums of the answers fit
-      pub as-answers : {b : Bool} → t .figures .fixes + f .fixes ≤ largest →
-          allFit (added (t .figures .answers) (f .answers)) ≡ b → addFits t f ≡ b
-      unfolding addFits totalFits addOf allFit figures.both inLog
-      as-answers h e = holds (yes≤ (omega arith)) (holds (yes≤ lines) (holds (yes≤ h) e))
+  abbrev later-gps : Range GpsSpot
+  later-gps = mapped (laterGps (a .logs)) (b .figures .gps)
 
-  pub stays : addFits t f ≡ false → record { total = t; fits = false } ≡ addRes t f
-  unfolding addRes pick
-  stays e = rw e
+  pub count-over : (i : ℕ) → largest < getD (counts (joinOf a b)) i 0 → joinFits a b ≡ false
+  unfolding joinFits totalFits
+  count-over i h = fails _ (one-over (counts (joinOf a b)) i h)
 
-  pub log-added : {answers : List ℕ} {pressure : Range PressureSpot} {gps : Range GpsSpot} {times : Range ℕ} →
-      addFits t f ≡ true →
-      answers ≡ added (t .figures .answers) (f .answers) →
-      pressure ≡ joined lowerPressure (t .figures .pressure) (mapped (pressureSpot (t .logs + 1)) (f .pressure)) →
-      gps ≡ joined lowerGps (t .figures .gps) (mapped (gpsSpot (t .logs + 1)) (f .gps)) →
-      times ≡ joined earlier (t .figures .times) (f .times) →
+  pub answers-over : allFit sums ≡ false → joinFits a b ≡ false
+  unfolding joinFits totalFits joinOf figures.both laterBy allFit
+  answers-over e = fails _ (fails-next _ (fails-next _ (fails-next _ e)))
+
+  pub pressure-over : allFit (numbersOf (λ s. s .log) later) ≡ false → joinFits a b ≡ false
+  unfolding joinFits laterBy
+  pressure-over e = fails-next _ (logs-split (laterBy (a .logs) (b .figures)) ∙ fails _ e)
+
+  pub gps-over : allFit (numbersOf (λ s. s .log) later-gps) ≡ false → joinFits a b ≡ false
+  unfolding joinFits laterBy
+  gps-over e = fails-next _ (logs-split (laterBy (a .logs) (b .figures)) ∙ fails-next _ e)
+
+  pub all-in : a .logs + b .logs ≤ largest → a .figures .lines + b .figures .lines ≤ largest →
+      a .figures .fixes + b .figures .fixes ≤ largest → allFit sums ≡ true →
+      allFit (numbersOf (λ s. s .log) later) ≡ true → allFit (numbersOf (λ s. s .log) later-gps) ≡ true →
+      joinFits a b ≡ true
+  unfolding joinFits totalFits joinOf figures.both laterBy allFit
+  all-in logs lines fixes answers pressure gps =
+      holds (holds (yes≤ logs) (holds (yes≤ lines) (holds (yes≤ fixes) answers)))
+      (logs-split (laterBy (a .logs) (b .figures)) ∙ holds pressure gps)
+
+  pub too-large : joinFits a b ≡ false → beside (refused 21) ≡ beside (joinRes a b)
+  unfolding joinRes pick
+  too-large e = rw e
+
+  pub joins : {answers : List ℕ} {pressure : Range PressureSpot} {gps : Range GpsSpot} {times : Range ℕ} →
+      joinFits a b ≡ true →
+      answers ≡ sums →
+      pressure ≡ joined lowerPressure (a .figures .pressure) later →
+      gps ≡ joined lowerGps (a .figures .gps) later-gps →
+      times ≡ joined earlier (a .figures .times) (b .figures .times) →
       record {
+        number = 0;
         total = record {
-          logs = t .logs + 1;
+          logs = a .logs + b .logs;
           figures = record {
-            lines = t .figures .lines + f .lines;
+            lines = a .figures .lines + b .figures .lines;
             answers = answers;
-            fixes = t .figures .fixes + f .fixes;
+            fixes = a .figures .fixes + b .figures .fixes;
             pressure = pressure;
             gps = gps;
             times = times;
           };
         };
-        fits = true;
-      } ≡ addRes t f
-  unfolding addRes addOf figures.both inLog pick
-  log-added fits counts pressures gpses times = rw (fits, counts, pressures, gpses, times)
+      } ≡ beside (joinRes a b)
+  unfolding beside joinRes joinOf figures.both laterBy pick
+  joins fits are pressures gpses these = rw (fits, are, pressures, gpses, these)
+
+-- ---- one log more
+
+module _ (t : Totals) (f : Figures PressurePeak GpsPeak) {u : Totals} where
+  pub log-added : record { number = 0; total = u } ≡ beside (joinRes t (oneLog f)) →
+      record { total = u; fits = true } ≡ addRes t f
+  unfolding addRes beside joinRes pick
+  log-added e =
+      by-test (joinFits t (oneLog f))
+      (λ h. rw (sym (add-fits t f), h, add-joins t f)
+      (ap (λ (b : Beside). record { total = b .total; fits = true }) (rw h at e)))
+      (λ h. absurd (omega (arith, ap (λ (b : Beside). b .number) (rw h at e))))
+
+  pub log-stays : record { number = 21; total = u } ≡ beside (joinRes t (oneLog f)) →
+      record { total = t; fits = false } ≡ addRes t f
+  unfolding addRes beside joinRes pick
+  log-stays e =
+      by-test (joinFits t (oneLog f))
+      (λ h. absurd (omega (arith, ap (λ (b : Beside). b .number) (rw h at e))))
+      (λ h. rw (sym (add-fits t f), h))

@@ -1,3 +1,5 @@
+pub mod Fits
+pub mod Totals
+pub mod Joining
 pub mod Adding
 pub mod Answers
-pub mod Totals

@@ -1,31 +1,33 @@
--- The total of some logs and then one more, and what a total says.
+-- The total of some logs and then others, of some and then one more, and what a total says.
 use Rattle.text.specs.Prelude.{ℕ, suc, _+_, _≤_, _<_, _≡_, Bool, List, [], _∷_, _++_, map, length, Res, pick}
-use Rattle.text.proofs.Prelude.{arith, refl, sym, ap, _∙_, append-nil, append-assoc, length-append}
+use Rattle.text.proofs.Prelude.{arith, refl, sym, ap, _∙_, append-nil, append-assoc, length-append, by-test}
 use mathlib.Core.Path.{fun-ext}
-use mathlib.Core.List.{map-append}
-use native.Mathlib.Nat.{zero-add, add-zero}
+use mathlib.Core.List.{map-append, map-map, map-id}
+use native.Mathlib.Nat.{zero-add, add-zero, add-assoc}
 use Rattle.records.specs.declared.Record.{Record}
 use Rattle.log.specs.Log.{LineRead}
-use Rattle.text.proofs.Prelude.{by-test}
 use Rattle.report.specs.Range.{Range, none, between, Every, Order, turned, higher, joined, rangeOf, IsRange}
 use Rattle.report.specs.Counts.{numbers, byNumber, summed, added}
-use Rattle.report.specs.Figures.{empty, both}
-use Rattle.report.specs.Report.{belowPressure, belowGps, pressureAt, gpsAt, answeredWith, fixesOf, shown, reportOf}
+use Rattle.report.specs.Figures.{Figures, earlier, empty, both}
+use Rattle.report.specs.Report.{belowPressure, belowGps, pressureAt, gpsAt, timeAt, answeredWith, fixesOf, shown}
+use Rattle.report.specs.Report.{reportOf}
+use Rattle.report.specs.declared.{pressure.PressurePeak.PressurePeak, gps.GpsPeak.GpsPeak}
 use Rattle.report.proofs.Ranges.{range-append, ordered-range, every-append, every-at}
 use Rattle.report.proofs.Counts.{added-from}
 use Rattle.report.proofs.Figures.{heights-order, times-order}
-use Rattle.total.specs.Total.{pressureSpot, gpsSpot, lowerPressure, lowerGps, inOrder, Logs, pressureShown}
-use Rattle.total.specs.Total.{gpsShown, timeShown, totalOf, noLogs, mapped, inLog, addOf}
+use Rattle.total.specs.Total.{Totals, pressureSpot, gpsSpot, lowerPressure, lowerGps, inOrder, Logs}
+use Rattle.total.specs.Total.{pressureShown, gpsShown, timeShown, totalOf, noLogs, mapped, inLog, oneLog, addOf}
+use Rattle.total.specs.Total.{laterPressure, laterGps, laterBy, joinOf}
 use Rattle.total.specs.Laws.{OfBoth, Numbers, Sound, TotalAgrees}
 use Rattle.total.specs.declared.{pressure.PressureSpot.PressureSpot, gps.GpsSpot.GpsSpot}
 
 -- ---- orders
 
-pressure-order : Order lowerPressure
+pub pressure-order : Order lowerPressure
 unfolding lowerPressure
 pressure-order = heights-order (λ (s : PressureSpot). s .height .0)
 
-gps-order : Order lowerGps
+pub gps-order : Order lowerGps
 unfolding lowerGps
 gps-order = heights-order (λ (s : GpsSpot). s .height .0)
 
@@ -37,7 +39,7 @@ unfolding higher pick
 higher-mapped below f a b = by-test (below (f a) (f b)) (λ e. rw e) (λ e. rw e)
 
 module _ {P Q : Type 0} (below : Q → Q → Bool) (f : P → Q) where
-  joined-mapped : (r s : Range P) →
+  pub joined-mapped : (r s : Range P) →
       mapped f (joined (λ a b. below (f a) (f b)) r s) ≡ joined below (mapped f r) (mapped f s)
   unfolding mapped joined
   joined-mapped none s = refl
@@ -51,17 +53,30 @@ module _ {P Q : Type 0} (below : Q → Q → Bool) (f : P → Q) where
   range-mapped (p ∷ ps) =
       rw (range-mapped ps) (sym (joined-mapped (between p p) (rangeOf (λ a b. below (f a) (f b)) ps)))
 
+-- ---- one after the other
+
+pub mapped-mapped : {P Q R : Type 0} (g : Q → R) (f : P → Q) (h : P → R) → ((p : P) → g (f p) ≡ h p) → (r : Range P) →
+    mapped g (mapped f r) ≡ mapped h r
+unfolding mapped
+mapped-mapped g f h e none = refl
+mapped-mapped g f h e (between a b) = rw (e a, e b)
+
+pub mapped-same : {P : Type 0} (f : P → P) → ((p : P) → f p ≡ p) → (r : Range P) → mapped f r ≡ r
+unfolding mapped
+mapped-same f e none = refl
+mapped-same f e (between a b) = rw (e a, e b)
+
 -- ---- in parts
 
-summed-append : (ns ms : List ℕ) → summed (ns ++ ms) ≡ summed ns + summed ms
+summed-append : {L : Type 0} (f : L → ℕ) (ls ms : List L) →
+    summed (map f (ls ++ ms)) ≡ summed (map f ls) + summed (map f ms)
 unfolding summed
-summed-append [] ms = sym (zero-add (summed ms))
-summed-append (n ∷ ns) ms = omega (arith, summed-append ns ms)
+summed-append f [] ms = sym (zero-add (summed (map f ms)))
+summed-append f (l ∷ ls) ms = omega (arith, summed-append f ls ms)
 
--- with one more at the end
-summed-last : {L : Type 0} (f : L → ℕ) (ls : List L) (l : L) → summed (map f (ls ++ (l ∷ []))) ≡ summed (map f ls) + f l
+summed-one : {L : Type 0} (f : L → ℕ) (l : L) → summed (map f (l ∷ [])) ≡ f l
 unfolding summed
-summed-last f ls l = rw (map-append f ls (l ∷ []), summed-append (map f ls) (f l ∷ []), add-zero (f l))
+summed-one f l = add-zero (f l)
 
 in-order-append : {L X : Type 0} (f : ℕ → L → List X) (n : ℕ) (ls ms : List L) →
     inOrder f n (ls ++ ms) ≡ inOrder f n ls ++ inOrder f (n + length ls) ms
@@ -71,21 +86,73 @@ in-order-append f n (l ∷ ls) ms =
     let e : n + 1 + length ls ≡ n + suc (length ls) = omega arith in
     rw (in-order-append f (n + 1) ls ms, e) (sym (append-assoc (f n l) _ _))
 
--- with one more at the end
-in-order-last : {L X : Type 0} (f : ℕ → L → List X) (ls : List L) (l : L) →
-    inOrder f 1 (ls ++ (l ∷ [])) ≡ inOrder f 1 ls ++ f (length ls + 1) l
-unfolding inOrder
-in-order-last f ls l =
-    let e : 1 + length ls ≡ length ls + 1 = omega arith in
-    rw (in-order-append f 1 ls (l ∷ []), e, append-nil)
+-- where each that is shown of a log with k logs more before it is later by k
+module _ {L Q : Type 0} (f : ℕ → L → List Q) (later : ℕ → Q → Q)
+    (shift : (k n : ℕ) (l : L) → f (k + n) l ≡ map (later k) (f n l)) where
+  in-order-later : (k n : ℕ) (ls : List L) → inOrder f (k + n) ls ≡ map (later k) (inOrder f n ls)
+  unfolding inOrder
+  in-order-later k n [] = refl
+  in-order-later k n (l ∷ ls) =
+      let e : k + n + 1 ≡ k + (n + 1) = add-assoc k n 1 in
+      rw (shift k n l, e, in-order-later k (n + 1) ls, map-append (later k) (f n l) (inOrder f (n + 1) ls))
 
-range-last : {L Q : Type 0} {below : Q → Q → Bool} → Order below → (f : ℕ → L → List Q) (ls : List L) (l : L) →
-    rangeOf below (inOrder f 1 (ls ++ (l ∷ []))) ≡
-    joined below (rangeOf below (inOrder f 1 ls)) (rangeOf below (f (length ls + 1) l))
-range-last {below} o f ls l =
-    ap (rangeOf below) (in-order-last f ls l) ∙ range-append o (inOrder f 1 ls) (f (length ls + 1) l)
+  range-in-order : {below : Q → Q → Bool} → Order below →
+      ((k : ℕ) → _≡_ {A = Q → Q → Bool} (λ a b. below (later k a) (later k b)) below) → (ls ms : List L) →
+      rangeOf below (inOrder f 1 (ls ++ ms)) ≡
+      joined below (rangeOf below (inOrder f 1 ls)) (mapped (later (length ls)) (rangeOf below (inOrder f 1 ms)))
+  range-in-order {below} o keeps ls ms =
+      let k = length ls in
+      let e : 1 + k ≡ k + 1 = omega arith in
+      rw (
+        in-order-append f 1 ls ms,
+        e,
+        in-order-later k 1 ms,
+        range-append o (inOrder f 1 ls) (map (later k) (inOrder f 1 ms)),
+        range-mapped below (later k) (inOrder f 1 ms),
+        keeps k,
+      )
+
+-- ---- two lists of logs
+
+module _ {T : Type 0} where
+  answers-append : (a b : Logs T) →
+      byNumber (λ n. summed (map (answeredWith n) (a ++ b))) ≡
+      added (byNumber (λ n. summed (map (answeredWith n) a))) (byNumber (λ n. summed (map (answeredWith n) b)))
+  unfolding byNumber
+  answers-append a b =
+      ap byNumber (fun-ext (λ n. summed-append (answeredWith n) a b))
+      ∙ sym (added-from numbers 0 (λ n. summed (map (answeredWith n) a)) (λ n. summed (map (answeredWith n) b)))
+
+  pub total-append : (a b : Logs T) → totalOf (a ++ b) ≡ joinOf (totalOf a) (totalOf b)
+  unfolding totalOf joinOf both laterBy pressureShown pressureSpot laterPressure lowerPressure
+      gpsShown gpsSpot laterGps lowerGps timeShown
+  total-append a b = rw (
+    length-append a b,
+    summed-append length a b,
+    answers-append a b,
+    summed-append fixesOf a b,
+    range-in-order pressureShown laterPressure
+        (λ k n xs. sym (map-map (laterPressure k) (pressureSpot n) (shown pressureAt xs)))
+        pressure-order (λ k. refl) a b,
+    range-in-order gpsShown laterGps
+        (λ k n xs. sym (map-map (laterGps k) (gpsSpot n) (shown gpsAt xs)))
+        gps-order (λ k. refl) a b,
+    range-in-order timeShown (λ k t. t) (λ k n xs. sym (map-id (shown timeAt xs))) times-order (λ k. refl) a b,
+    mapped-same (λ (t : ℕ). t) (λ t. refl) (rangeOf earlier (inOrder timeShown 1 b)),
+  )
 
 -- ---- one log more
+
+later-log : (k n : ℕ) (f : Figures PressurePeak GpsPeak) → laterBy k (inLog n f) ≡ inLog (k + n) f
+unfolding laterBy inLog laterPressure laterGps pressureSpot gpsSpot
+later-log k n f = rw (
+  mapped-mapped (laterPressure k) (pressureSpot n) (pressureSpot (k + n)) (λ p. refl) (f .pressure),
+  mapped-mapped (laterGps k) (gpsSpot n) (gpsSpot (k + n)) (λ p. refl) (f .gps),
+)
+
+pub add-joins : (t : Totals) (f : Figures PressurePeak GpsPeak) → addOf t f ≡ joinOf t (oneLog f)
+unfolding addOf joinOf oneLog
+add-joins t f = rw (later-log (t .logs) 1 f)
 
 module _ {T : Type 0} where
   -- heights of a log, with its number
@@ -99,28 +166,24 @@ module _ {T : Type 0} where
   unfolding gpsShown reportOf lowerGps belowGps gpsSpot
   gps-shown n xs = range-mapped lowerGps (gpsSpot n) (shown gpsAt xs)
 
-  answers-last : (logs : Logs T) (xs : List (LineRead (Res Record) T)) →
-      byNumber (λ n. summed (map (answeredWith n) (logs ++ (xs ∷ [])))) ≡
-      added (byNumber (λ n. summed (map (answeredWith n) logs))) (reportOf xs .answers)
-  unfolding byNumber reportOf
-  answers-last logs xs =
-      ap byNumber (fun-ext (λ n. summed-last (answeredWith n) logs xs))
-      ∙ sym (added-from numbers 0 (λ n. summed (map (answeredWith n) logs)) (λ n. answeredWith n xs))
+  total-one : (xs : List (LineRead (Res Record) T)) → totalOf (xs ∷ []) ≡ oneLog (reportOf xs)
+  unfolding totalOf oneLog inLog inOrder summed reportOf timeShown
+  total-one xs = rw (
+    summed-one length xs,
+    ap byNumber (fun-ext (λ n. summed-one (answeredWith n) xs)),
+    summed-one fixesOf xs,
+    append-nil (pressureShown 1 xs),
+    pressure-shown 1 xs,
+    append-nil (gpsShown 1 xs),
+    gps-shown 1 xs,
+    append-nil (shown timeAt xs),
+  )
 
   one-more : (logs : Logs T) (xs : List (LineRead (Res Record) T)) →
       totalOf (logs ++ (xs ∷ [])) ≡ addOf (totalOf logs) (reportOf xs)
-  unfolding totalOf addOf both inLog reportOf timeShown
-  one-more logs xs = rw (
-    length-append logs (xs ∷ []),
-    summed-last length logs xs,
-    answers-last logs xs,
-    summed-last fixesOf logs xs,
-    range-last pressure-order pressureShown logs xs,
-    pressure-shown (length logs + 1) xs,
-    range-last gps-order gpsShown logs xs,
-    gps-shown (length logs + 1) xs,
-    range-last times-order timeShown logs xs,
-  )
+  one-more logs xs =
+      let t = totalOf logs in
+      total-append logs (xs ∷ []) ∙ ap (joinOf t) (total-one xs) ∙ sym (add-joins t (reportOf xs))
 
 -- ---- log numbers
 

@@ -10,7 +10,7 @@ use Rattle.report.specs.Report.{answeredWith, fixesOf, shown, pressureAt, gpsAt
 use Rattle.report.specs.declared.{pressure.PressurePeak.PressurePeak, gps.GpsPeak.GpsPeak}
 use Rattle.total.specs.declared.{pressure.PressureSpot.PressureSpot, pressure.PressureSpan.PressureSpan}
 use Rattle.total.specs.declared.{gps.GpsSpot.GpsSpot, gps.GpsSpan.GpsSpan}
-use Rattle.total.specs.declared.{Total.Total, Added.Added, Sums.Sums}
+use Rattle.total.specs.declared.{Total.Total, Added.Added, Sums.Sums, Verdict.Verdict, Joined.Joined}
 
 -- How many logs, and the figures over all of them.
 pub record Totals : Type 0 where
@@ -95,6 +95,10 @@ inLog n f = record {
   times = f .times;
 }
 
+-- The total of one log.
+unfoldable pub oneLog : Figures PressurePeak GpsPeak → Totals
+oneLog f = record { logs = 1; figures = inLog 1 f }
+
 -- With the report of one log more.
 unfoldable pub addOf : Totals → Figures PressurePeak GpsPeak → Totals
 addOf t f = record {
@@ -102,7 +106,7 @@ addOf t f = record {
   figures = both lowerPressure lowerGps (t .figures) (inLog (t .logs + 1) f);
 }
 
--- Each of some counts fits 64 bits.
+-- Each of some numbers fits 64 bits.
 unfoldable pub allFit : List ℕ → Bool
 allFit [] = true
 allFit (n ∷ ns) = (n ≤? largest) ∧? allFit ns
@@ -124,7 +128,57 @@ pub record Given : Type 0 where
 unfoldable pub addRes : Totals → Figures PressurePeak GpsPeak → Given
 addRes t f = record { total = pick (addFits t f) (addOf t f) t; fits = addFits t f }
 
--- Counts with those of a log more where they fit, else as they were.
+-- ---- two totals
+
+-- A pressure height with k logs more before its own.
+unfoldable pub laterPressure : ℕ → PressureSpot → PressureSpot
+laterPressure k s = record { log = k + s .log; place = s .place; height = s .height }
+
+-- A GPS height with k logs more before its own.
+unfoldable pub laterGps : ℕ → GpsSpot → GpsSpot
+laterGps k s = record { log = k + s .log; place = s .place; height = s .height }
+
+-- The same figures, their log numbers shifted by k.
+unfoldable pub laterBy : ℕ → Figures PressureSpot GpsSpot → Figures PressureSpot GpsSpot
+laterBy k f = record {
+  lines = f .lines;
+  answers = f .answers;
+  fixes = f .fixes;
+  pressure = mapped (laterPressure k) (f .pressure);
+  gps = mapped (laterGps k) (f .gps);
+  times = f .times;
+}
+
+-- The logs of the first and then those of the second, whose log numbers are shifted by the length of the first.
+unfoldable pub joinOf : Totals → Totals → Totals
+joinOf a b = record {
+  logs = a .logs + b .logs;
+  figures = both lowerPressure lowerGps (a .figures) (laterBy (a .logs) (b .figures));
+}
+
+-- The log numbers of a highest and a lowest.
+unfoldable pub numbersOf : {P : Type 0} → (P → ℕ) → Range P → List ℕ
+numbersOf number none = []
+numbersOf number (between high low) = number high ∷ number low ∷ []
+
+-- The log numbers that figures name.
+unfoldable pub logNumbers : Figures PressureSpot GpsSpot → List ℕ
+logNumbers f = numbersOf (λ s. s .log) (f .pressure) ++ numbersOf (λ s. s .log) (f .gps)
+
+-- Every joined count fits 64 bits, and every log number of the second, shifted.
+unfoldable pub joinFits : Totals → Totals → Bool
+joinFits a b = totalFits (joinOf a b) ∧? allFit (logNumbers (laterBy (a .logs) (b .figures)))
+
+-- A total; or the number of a refusal, and no total.
+pub data Joining : Type 0 where
+  given : Totals → Joining
+  refused : ℕ → Joining
+
+-- The joined total; 21 exactly where a joined count or a shifted log number would not fit.
+unfoldable pub joinRes : Totals → Totals → Joining
+joinRes a b = pick (joinFits a b) (given (joinOf a b)) (refused 21)
+
+-- Counts with those of another where they fit, else as they were.
 unfoldable pub sumsRes : List ℕ → List ℕ → Sums
 sumsRes ns ms =
     let fit = allFit (added ns ms) in record { counts = pick fit (added ns ms) ns; fit = fit }
@@ -154,3 +208,21 @@ totalIn t = record {
 
 abbrev pub addedIn : Added → Given
 addedIn a = record { total = totalIn (a .total); fits = a .fits }
+
+-- 21 is the paper's number; 0 stands for no refusal.
+abbrev pub verdictNumber : Verdict → ℕ
+verdictNumber Verdict.Fits = 0
+verdictNumber Verdict.TooLarge = 21
+
+-- The number of the answer, and the total beside it.
+pub record Beside : Type 0 where
+  pub number : ℕ
+  pub total : Totals
+
+-- Beside a refusal stands the total of no logs.
+unfoldable pub beside : Joining → Beside
+beside (given t) = record { number = 0; total = t }
+beside (refused n) = record { number = n; total = noLogs }
+
+abbrev pub joinedIn : Joined → Beside
+joinedIn j = record { number = verdictNumber (j .verdict); total = totalIn (j .total) }

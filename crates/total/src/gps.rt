@@ -1,8 +1,11 @@
 // GPS heights over some logs, with their places. No place that wants a pressure height takes one.
+ghost use Prim.Native.Nat.{_+_, _≤_};
 ghost use mathlib.Core.Path.{_≡_};
+ghost use mathlib.Core.Bool.{true};
 ghost use Rattle.report.specs.Range.{higher, joined, turned};
 ghost use Rattle.report.specs.Report.{gpsIn};
-ghost use Rattle.total.specs.Total.{gpsOver, gpsSpot, lowerGps, mapped};
+ghost use Rattle.text.specs.Word.{largest};
+ghost use Rattle.total.specs.Total.{allFit, gpsOver, gpsSpot, laterGps, lowerGps, mapped, numbersOf};
 use b_record::GpsAlt;
 use report::gps::GpsPeak;
 use report::gps::GpsRange;
@@ -28,6 +31,19 @@ impl GpsSpot {
         GpsSpot {
             log,
             place: peak.place,
+            height,
+        }
+    }
+
+    // With so many logs more before its own.
+    fn later(self, before: u64) -> GpsSpot
+        requires { ⌜ before + self .log ≤ largest ⌝ }
+        ensures { λ r. ⌜ r ≡ laterGps before self ⌝ }
+    {
+        let height = self.height;
+        GpsSpot {
+            log: before + self.log,
+            place: self.place,
             height,
         }
     }
@@ -70,6 +86,35 @@ impl GpsSpan {
             GpsRange::Between { high, low } => GpsSpan::Between {
                 high: GpsSpot::in_log(log, high),
                 low: GpsSpot::in_log(log, low),
+            },
+        }
+    }
+
+    // Its log numbers fit with so many logs before them.
+    pub(crate) fn fits(self, before: u64) -> bool
+        ensures { λ r. ⌜ r ≡ allFit (numbersOf (λ s. s .log) (mapped (laterGps before) (gpsOver self))) ⌝ }
+    {
+        match self {
+            GpsSpan::Missing => true,
+            GpsSpan::Between { high, low } => {
+                if 0xffff_ffff_ffff_ffff - before < high.log {
+                    return false;
+                }
+                low.log <= 0xffff_ffff_ffff_ffff - before
+            }
+        }
+    }
+
+    // With so many logs before them.
+    pub(crate) fn later(self, before: u64) -> GpsSpan
+        requires { ⌜ allFit (numbersOf (λ s. s .log) (mapped (laterGps before) (gpsOver self))) ≡ true ⌝ }
+        ensures { λ r. ⌜ gpsOver r ≡ mapped (laterGps before) (gpsOver self) ⌝ }
+    {
+        match self {
+            GpsSpan::Missing => GpsSpan::Missing,
+            GpsSpan::Between { high, low } => GpsSpan::Between {
+                high: high.later(before),
+                low: low.later(before),
             },
         }
     }

@@ -4,7 +4,8 @@ pub mod pressure;
 
 ghost use mathlib.Core.Path.{_≡_};
 ghost use Rattle.report.specs.Report.{figuresIn};
-ghost use Rattle.total.specs.Total.{addRes, addedIn, noLogs, sumsRes, totalIn};
+ghost use Rattle.total.specs.Total.{addRes, addedIn, beside, joinRes, joinedIn, noLogs, oneLog, refused, sumsRes};
+ghost use Rattle.total.specs.Total.{totalIn, verdictNumber};
 use crate::gps::GpsSpan;
 use crate::pressure::PressureSpan;
 use report::Report;
@@ -26,7 +27,19 @@ pub struct Added {
     pub fits: bool,
 }
 
-// Counts with those of a log more, where they fit; else as they were.
+// Whether a joined total fits its fields of 64 bits.
+pub enum Verdict {
+    Fits,
+    TooLarge,
+}
+
+// The verdict stands beside the total: an enum holds no array. Where it does not fit this is the total of no logs.
+pub struct Joined {
+    pub total: Total,
+    pub verdict: Verdict,
+}
+
+// Counts with those of another, where they fit; else as they were.
 struct Sums {
     counts: [u64; 13],
     fit: bool,
@@ -50,6 +63,28 @@ fn add_counts(counts: [u64; 13], more: [u64; 13]) -> Sums
     }
 }
 
+impl Verdict {
+    // The number that the paper gives it; 0 is no refusal.
+    pub fn number(self) -> u8
+        ensures { λ r. ⌜ r ≡ verdictNumber self ⌝ }
+    {
+        match self {
+            Verdict::Fits => 0,
+            Verdict::TooLarge => 21,
+        }
+    }
+}
+
+// 21, and no total.
+fn too_large() -> Joined
+    ensures { λ r. ⌜ joinedIn r ≡ beside (refused 21) ⌝ }
+{
+    Joined {
+        total: Total::new(),
+        verdict: Verdict::TooLarge,
+    }
+}
+
 impl Total {
     // Of no logs.
     pub fn new() -> Total
@@ -66,54 +101,87 @@ impl Total {
         }
     }
 
+    // Of one log.
+    fn of_log(report: Report) -> Total
+        ensures { λ r. ⌜ totalIn r ≡ oneLog (figuresIn report) ⌝ }
+    {
+        let answers = report.answers;
+        let pressure = report.pressure;
+        let gps = report.gps;
+        let times = report.times;
+        Total {
+            answers,
+            logs: 1,
+            lines: report.lines,
+            fixes: report.fixes,
+            pressure: PressureSpan::in_log(1, pressure),
+            gps: GpsSpan::in_log(1, gps),
+            times,
+        }
+    }
+
+    // The logs of this one and then those of the other, whose log numbers are shifted by the length of the first. 21
+    // where a joined count or a shifted log number would not fit.
+    pub fn join(self, other: Total) -> Joined
+        ensures { λ r. ⌜ joinedIn r ≡ beside (joinRes (totalIn self) (totalIn other)) ⌝ }
+    {
+        let logs = self.logs;
+        let counts = self.answers;
+        let more = other.answers;
+        let pressure = self.pressure;
+        let gps = self.gps;
+        let times = self.times;
+        let later_pressure = other.pressure;
+        let later_gps = other.gps;
+        let later_times = other.times;
+        if 0xffff_ffff_ffff_ffff - logs < other.logs {
+            return too_large();
+        }
+        if 0xffff_ffff_ffff_ffff - self.lines < other.lines {
+            return too_large();
+        }
+        if 0xffff_ffff_ffff_ffff - self.fixes < other.fixes {
+            return too_large();
+        }
+        let sums = add_counts(counts, more);
+        if !sums.fit {
+            return too_large();
+        }
+        if !later_pressure.fits(logs) {
+            return too_large();
+        }
+        if !later_gps.fits(logs) {
+            return too_large();
+        }
+        let answers = sums.counts;
+        let total = Total {
+            answers,
+            logs: logs + other.logs,
+            lines: self.lines + other.lines,
+            fixes: self.fixes + other.fixes,
+            pressure: pressure.join(later_pressure.later(logs)),
+            gps: gps.join(later_gps.later(logs)),
+            times: times.join(later_times),
+        };
+        Joined {
+            total,
+            verdict: Verdict::Fits,
+        }
+    }
+
     // With the report of one log more. Where a count does not fit, the total stays.
     pub fn add(self, report: Report) -> Added
         ensures { λ r. ⌜ addedIn r ≡ addRes (totalIn self) (figuresIn report) ⌝ }
     {
-        if 0xffff_ffff_ffff_ffff <= self.logs {
-            return Added {
+        let joined = self.join(Total::of_log(report));
+        let total = joined.total;
+        let verdict = joined.verdict;
+        match verdict {
+            Verdict::Fits => Added { total, fits: true },
+            Verdict::TooLarge => Added {
                 total: self,
                 fits: false,
-            };
+            },
         }
-        if 0xffff_ffff_ffff_ffff - self.lines < report.lines {
-            return Added {
-                total: self,
-                fits: false,
-            };
-        }
-        if 0xffff_ffff_ffff_ffff - self.fixes < report.fixes {
-            return Added {
-                total: self,
-                fits: false,
-            };
-        }
-        let counts = self.answers;
-        let more = report.answers;
-        let sums = add_counts(counts, more);
-        if !sums.fit {
-            return Added {
-                total: self,
-                fits: false,
-            };
-        }
-        let log = self.logs + 1;
-        let answers = sums.counts;
-        let pressure = self.pressure;
-        let gps = self.gps;
-        let times = self.times;
-        let log_pressure = report.pressure;
-        let log_gps = report.gps;
-        let log_times = report.times;
-        let total = Total {
-            answers,
-            logs: log,
-            lines: self.lines + report.lines,
-            fixes: self.fixes + report.fixes,
-            pressure: pressure.join(PressureSpan::in_log(log, log_pressure)),
-            gps: gps.join(GpsSpan::in_log(log, log_gps)),
-            times: times.join(log_times),
-        };
-        Added { total, fits: true }
     }
 }

@@ -1,8 +1,12 @@
 // Pressure heights over some logs, with their places. No place that wants a GPS height takes one.
+ghost use Prim.Native.Nat.{_+_, _≤_};
 ghost use mathlib.Core.Path.{_≡_};
+ghost use mathlib.Core.Bool.{true};
 ghost use Rattle.report.specs.Range.{higher, joined, turned};
 ghost use Rattle.report.specs.Report.{pressureIn};
-ghost use Rattle.total.specs.Total.{lowerPressure, mapped, pressureOver, pressureSpot};
+ghost use Rattle.text.specs.Word.{largest};
+ghost use Rattle.total.specs.Total.{allFit, laterPressure, lowerPressure, mapped, numbersOf, pressureOver};
+ghost use Rattle.total.specs.Total.{pressureSpot};
 use b_record::PressureAlt;
 use report::pressure::PressurePeak;
 use report::pressure::PressureRange;
@@ -31,6 +35,19 @@ impl PressureSpot {
         PressureSpot {
             log,
             place: peak.place,
+            height,
+        }
+    }
+
+    // With so many logs more before its own.
+    fn later(self, before: u64) -> PressureSpot
+        requires { ⌜ before + self .log ≤ largest ⌝ }
+        ensures { λ r. ⌜ r ≡ laterPressure before self ⌝ }
+    {
+        let height = self.height;
+        PressureSpot {
+            log: before + self.log,
+            place: self.place,
             height,
         }
     }
@@ -73,6 +90,35 @@ impl PressureSpan {
             PressureRange::Between { high, low } => PressureSpan::Between {
                 high: PressureSpot::in_log(log, high),
                 low: PressureSpot::in_log(log, low),
+            },
+        }
+    }
+
+    // Its log numbers fit with so many logs before them.
+    pub(crate) fn fits(self, before: u64) -> bool
+        ensures { λ r. ⌜ r ≡ allFit (numbersOf (λ s. s .log) (mapped (laterPressure before) (pressureOver self))) ⌝ }
+    {
+        match self {
+            PressureSpan::Missing => true,
+            PressureSpan::Between { high, low } => {
+                if 0xffff_ffff_ffff_ffff - before < high.log {
+                    return false;
+                }
+                low.log <= 0xffff_ffff_ffff_ffff - before
+            }
+        }
+    }
+
+    // With so many logs before them.
+    pub(crate) fn later(self, before: u64) -> PressureSpan
+        requires { ⌜ allFit (numbersOf (λ s. s .log) (mapped (laterPressure before) (pressureOver self))) ≡ true ⌝ }
+        ensures { λ r. ⌜ pressureOver r ≡ mapped (laterPressure before) (pressureOver self) ⌝ }
+    {
+        match self {
+            PressureSpan::Missing => PressureSpan::Missing,
+            PressureSpan::Between { high, low } => PressureSpan::Between {
+                high: high.later(before),
+                low: low.later(before),
             },
         }
     }

@@ -11,6 +11,7 @@ use files::outcome::Outcome;
 use files::output::write_all;
 use files::say::fail;
 use files::say::tell;
+use joins::run_join;
 use products::Product;
 use seasons::run_season;
 use stream::run;
@@ -179,6 +180,23 @@ fn is_season(word: [u8; 8], n: usize) -> bool {
     word[5] == b'n'
 }
 
+// The word is `join`.
+fn is_join(word: [u8; 8], n: usize) -> bool {
+    if n != 4 {
+        return false;
+    }
+    if word[0] != b'j' {
+        return false;
+    }
+    if word[1] != b'o' {
+        return false;
+    }
+    if word[2] != b'i' {
+        return false;
+    }
+    word[3] == b'n'
+}
+
 // A word of one digit names a descriptor; -1 is none.
 fn descriptor(word: [u8; 8], n: usize) -> i32 {
     if n != 1 {
@@ -216,14 +234,18 @@ fn run_from(at: usize, told: i32)
         run_season(at + 1, told);
         return;
     }
+    if is_join(word, n) {
+        run_join(at + 1, told);
+        return;
+    }
     write_all(
         2,
-        b"tokelivo: none of list, fields and season is asked for\n",
+        b"tokelivo: none of list, fields, season and join is asked for\n",
     );
 }
 
-// By the program's words: `list FILE`, `fields FILE NAME..` or `season FILE..`. In front of them may stand a
-// descriptor, as 3: where nothing went wrong, 0 is written there.
+// By the program's words: `list FILE`, `fields FILE NAME..`, `season FILE..` or `join SHEET..`. In front of them may
+// stand a descriptor, as 3: where nothing went wrong, 0 is written there.
 pub fn run_words() {
     let mut word = [0u8; 8];
     let n = os::arg(1, &mut word);

@@ -2,7 +2,8 @@ use Rattle.text.specs.Prelude.{ℕ, _-_, _≡_, length, getD}
 use Rattle.text.proofs.Prelude.{needs, arith, refl, sym, _∙_}
 use mir.Syntax.{w64}
 use mir.Val.{Fits}
-use Rattle.total.proofs.Adding.{Made, all-fit, over-here, sum-here, sums-made}
+use Rattle.total.proofs.Fits.{all-fit}
+use Rattle.total.proofs.Adding.{Made, over-here, sum-here, sums-made}
 use Rattle.total.proofs.add_counts.Statement.{statement}
 use Rattle.total.proofs.add_counts.Tie as tie
 

@@ -1,0 +1,10 @@
+pub mod Coming
+pub mod Words
+pub mod Numbers
+pub mod Counts
+pub mod Leaving
+pub mod Blocks
+pub mod Undoing
+pub mod LinesUndone
+pub mod AnswersUndone
+pub mod Undone

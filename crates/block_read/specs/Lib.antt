@@ -1,0 +1,4 @@
+pub mod Read
+pub mod Held
+pub mod Block
+pub mod Laws
