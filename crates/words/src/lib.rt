@@ -5,6 +5,7 @@ ghost use mathlib.Core.Path.{_≡_};
 ghost use Prim.Native.Nat.{_≤_};
 ghost use lib.ListN.{length};
 use crate::names::read_names;
+use block_read::starts_with;
 use files::input::is_dash;
 use files::input::open;
 use files::outcome::Outcome;
@@ -117,84 +118,12 @@ pub fn run_fields_of_input() {
     }
 }
 
-// The word is `list`.
-fn is_list(word: [u8; 8], n: usize) -> bool {
-    if n != 4 {
+// The word is that name.
+fn is_word(word: &[u8], name: &[u8]) -> bool {
+    if word.len() != name.len() {
         return false;
     }
-    if word[0] != b'l' {
-        return false;
-    }
-    if word[1] != b'i' {
-        return false;
-    }
-    if word[2] != b's' {
-        return false;
-    }
-    word[3] == b't'
-}
-
-// The word is `fields`.
-fn is_fields(word: [u8; 8], n: usize) -> bool {
-    if n != 6 {
-        return false;
-    }
-    if word[0] != b'f' {
-        return false;
-    }
-    if word[1] != b'i' {
-        return false;
-    }
-    if word[2] != b'e' {
-        return false;
-    }
-    if word[3] != b'l' {
-        return false;
-    }
-    if word[4] != b'd' {
-        return false;
-    }
-    word[5] == b's'
-}
-
-// The word is `season`.
-fn is_season(word: [u8; 8], n: usize) -> bool {
-    if n != 6 {
-        return false;
-    }
-    if word[0] != b's' {
-        return false;
-    }
-    if word[1] != b'e' {
-        return false;
-    }
-    if word[2] != b'a' {
-        return false;
-    }
-    if word[3] != b's' {
-        return false;
-    }
-    if word[4] != b'o' {
-        return false;
-    }
-    word[5] == b'n'
-}
-
-// The word is `join`.
-fn is_join(word: [u8; 8], n: usize) -> bool {
-    if n != 4 {
-        return false;
-    }
-    if word[0] != b'j' {
-        return false;
-    }
-    if word[1] != b'o' {
-        return false;
-    }
-    if word[2] != b'i' {
-        return false;
-    }
-    word[3] == b'n'
+    starts_with(word, name)
 }
 
 // A word of one digit names a descriptor; -1 is none.
@@ -218,7 +147,7 @@ fn run_from(at: usize, told: i32)
     let words = os::arg_count();
     let mut word = [0u8; 8];
     let n = os::arg(at, &mut word);
-    if is_list(word, n) {
+    if is_word(&word[0..n], b"list") {
         if words > at + 2 {
             write_all(2, b"tokelivo: list takes one file\n");
             return;
@@ -226,15 +155,15 @@ fn run_from(at: usize, told: i32)
         run_named(Product::Listing, at, b"", told);
         return;
     }
-    if is_fields(word, n) {
+    if is_word(&word[0..n], b"fields") {
         run_fields(at, words, told);
         return;
     }
-    if is_season(word, n) {
+    if is_word(&word[0..n], b"season") {
         run_season(at + 1, told);
         return;
     }
-    if is_join(word, n) {
+    if is_word(&word[0..n], b"join") {
         run_join(at + 1, told);
         return;
     }
