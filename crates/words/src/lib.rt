@@ -1,10 +1,7 @@
 // The desk's program, by the words that it is started with.
-mod names;
-
 ghost use mathlib.Core.Path.{_≡_};
 ghost use Prim.Native.Nat.{_≤_};
 ghost use lib.ListN.{length};
-use crate::names::read_names;
 use block_read::starts_with;
 use files::input::is_dash;
 use files::input::open;
@@ -13,6 +10,7 @@ use files::output::write_all;
 use files::say::fail;
 use files::say::tell;
 use joins::run_join;
+use names::read_names;
 use products::Product;
 use seasons::run_season;
 use stream::run;

@@ -1,7 +1,7 @@
 use Rattle.text.specs.Prelude.{_-_, _≤_, _≡_, length}
 use Rattle.text.proofs.Prelude.{needs, arith, refl}
-use Rattle.words.proofs.names.count_names.Statement.{statement}
-use Rattle.words.proofs.names.count_names.Tie as tie
+use Rattle.names.proofs.count_names.Statement.{statement}
+use Rattle.names.proofs.count_names.Tie as tie
 
 abbrev Inv-loop : tie.InvT-loop
 Inv-loop first count names₀ i₀ names i = (i ≤ count) × (length names ≡ length names₀)

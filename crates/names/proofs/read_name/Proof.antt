@@ -1,9 +1,9 @@
 use Rattle.text.specs.Prelude.{ℕ, _*_, _≡_, List, length}
 use Rattle.text.proofs.Prelude.{needs}
 use Rattle.put.specs.Put.{Wrote}
-use Rattle.words.specs.Names.{Named}
-use Rattle.words.proofs.names.read_name.Statement.{statement}
-use Rattle.words.proofs.names.read_name.Tie as tie
+use Rattle.names.specs.Names.{Named}
+use Rattle.names.proofs.read_name.Statement.{statement}
+use Rattle.names.proofs.read_name.Tie as tie
 
 -- three bytes that were put where the name has its place
 put-there : (i : ℕ) {b t b′ : List ℕ} {r : ℕ} → Wrote b (3 * i) t b′ r → length t ≡ 3 → Named i b b′

@@ -2,7 +2,7 @@
 ghost use mathlib.Core.Path.{_≡_};
 ghost use mathlib.Core.Bool.{true};
 ghost use Prim.Native.Nat.{_≤_, _<_};
-ghost use Rattle.words.specs.Names.{NameRead};
+ghost use Rattle.names.specs.Names.{NameRead};
 use files::output::write_all;
 use put::put_bytes;
 
