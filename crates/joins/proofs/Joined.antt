@@ -1,7 +1,7 @@
 -- One sheet more, by the verdict on its total.
-use Rattle.text.specs.Prelude.{ℕ, _≡_, Bool, true, false, pick}
-use Rattle.text.proofs.Prelude.{arith, refl, ap, by-test}
-use Rattle.total.specs.Total.{Totals, given, refused, joinFits, joinOf, joinRes, Beside, beside}
+use Rattle.text.specs.Prelude.{_≡_, pick}
+use Rattle.text.proofs.Prelude.{arith, ap, by-test}
+use Rattle.total.specs.Total.{Totals, joinFits, joinRes, Beside, beside}
 use Rattle.joins.specs.Halves.{Sofar, notWhole, joinedOn}
 
 module _ (c : Sofar) (a b : Totals) {t : Totals} where

@@ -1,5 +1,5 @@
 -- The total of the sheets so far.
-use Rattle.text.specs.Prelude.{ℕ, Bool, false}
+use Rattle.text.specs.Prelude.{Bool, false}
 use Rattle.total.specs.Total.{Totals, Joining, given, refused, totalIn}
 use Rattle.joins.specs.declared.Halves.{Halves}
 

@@ -10,7 +10,7 @@ use Rattle.window.specs.Piece.{pieceEnd}
 use Rattle.sheet_read.specs.Sheet.{fromAll, ends, Sheet, whole, noSheet, readSheet, Beside, beside}
 use Rattle.sheet_read.specs.declared.Verdict.{Verdict}
 use Rattle.sheet_file.specs.File.{Onward, stopped, counted, endedAs, lastTurn, passing, passed, fullTurn, turned}
-use Rattle.sheet_file.specs.File.{windowAfter, Ends, Told}
+use Rattle.sheet_file.specs.File.{windowAfter, Told}
 use Rattle.sheet_file.specs.declared.Ended.{Ended}
 use Rattle.sheet_file.proofs.Passing.{later, ends-append, all-behind, read-behind, passing-none, passing-closed}
 

@@ -4,12 +4,12 @@ use Rattle.text.specs.Prelude.{_=?_, _∧?_, byte, LF}
 use Rattle.text.proofs.Prelude.{arith, refl, ap, _∙_, length-drop, length-take, drop-of-length-le, first}
 use Rattle.text.proofs.Prelude.{second, yes=, no=, by-test, never, and, take-all}
 use Rattle.text.specs.Spelt.{spelt}
-use Rattle.total.specs.Total.{Totals, noLogs}
+use Rattle.total.specs.Total.{Totals}
 use Rattle.block_read.specs.Read.{Read, got, wrong, next, startsWith}
 use Rattle.block_read.specs.Block.{Block, readAll, blockIn, blockOf}
 use Rattle.block_read.proofs.Words.{drop-byte}
 use Rattle.block_read.proofs.Leaving.{Leaves, leaves-all}
-use Rattle.sheet_read.specs.Sheet.{fromAll, ends, lineAt, Sheet, whole, noSheet, sheetOf, readSheet}
+use Rattle.sheet_read.specs.Sheet.{fromAll, ends, lineAt, whole, noSheet, sheetOf, readSheet}
 
 -- ---- lines that end
 

@@ -1,5 +1,5 @@
 -- A season's sheet is read as its total.
-use Rattle.text.specs.Prelude.{ℕ, _≡_, true, List, [], _++_, pick, _=?_, _∧?_}
+use Rattle.text.specs.Prelude.{_≡_, true, [], pick, _=?_, _∧?_}
 use Rattle.text.specs.Spelt.{spelt, speltFrom}
 use Rattle.text.proofs.Prelude.{refl, append-nil}
 use Rattle.total.specs.Total.{Totals}

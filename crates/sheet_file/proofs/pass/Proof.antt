@@ -1,5 +1,5 @@
-use Rattle.text.specs.Prelude.{_-_, _≤_, _≡_, length, take, now}
-use Rattle.text.proofs.Prelude.{needs, arith, refl, sym, ap, _∙_, first, length-take}
+use Rattle.text.specs.Prelude.{_-_, _≤_, _≡_, length, now}
+use Rattle.text.proofs.Prelude.{needs, arith, refl, ap, _∙_, first, length-take}
 use native.Mathlib.Nat.{sub-zero}
 use Rattle.window.specs.Piece.{pieceEnd}
 use Rattle.window.proofs.Wholes.{whole-le}

@@ -1,7 +1,7 @@
 use Rattle.text.specs.Prelude.{ℕ, _-_, _≡_, List, length, now, largest}
-use Rattle.text.proofs.Prelude.{needs, refl, ap, _∙_}
+use Rattle.text.proofs.Prelude.{needs, refl, _∙_}
 use Rattle.files.proofs.Filling.{ended-inside}
-use Rattle.sheet_file.specs.File.{Onward, turnIn}
+use Rattle.sheet_file.specs.File.{turnIn}
 use Rattle.sheet_file.proofs.Going.{Gone, Goes, at-start, goes-turned, goes-more}
 use Rattle.sheet_file.proofs.read_file.Statement.{statement}
 use Rattle.sheet_file.proofs.read_file.Tie as tie
