@@ -16,10 +16,11 @@ use Rattle.field.proofs.Fields.{columns-of-ascii}
 use Rattle.three.specs.Three.{readThree}
 use Rattle.time.specs.Time.{timeOf, readTime}
 use Rattle.time.specs.declared.Time.{Time}
-use Rattle.coord.specs.Coord.{lettered, readCoord, latitude, longitude, latitudeIn, longitudeIn}
-use Rattle.coord.specs.Coord.{latitudeBy, longitudeBy}
-use Rattle.coord.specs.declared.{Compass.Compass, RawCoord.RawCoord, RawLatitude.RawLatitude, RawLongitude.RawLongitude}
-use Rattle.coord.specs.declared.Compass.the-variants.{North, South, East, West}
+use Rattle.raw_coord.specs.Coord.{lettered, readCoord}
+use Rattle.coord.specs.Coord.{latitude, longitude, latitudeIn, longitudeIn, latitudeBy, longitudeBy}
+use Rattle.raw_coord.specs.declared.{Compass.Compass, RawCoord.RawCoord}
+use Rattle.raw_coord.specs.declared.Compass.the-variants.{North, South, East, West}
+use Rattle.coord.specs.declared.{RawLatitude.RawLatitude, RawLongitude.RawLongitude}
 use Rattle.position.specs.Position.{readBoth, readPosition}
 use Rattle.b_record.specs.BRecord.{readHeights}
 use Rattle.b_quick.specs.Quick.{plainDigits}

@@ -8,9 +8,10 @@ use Rattle.text.proofs.Reading.{Written, no-sign}
 use Rattle.field.specs.Field.{sized, asciiIn, ascii, field}
 use Rattle.field.proofs.Digits.{cut-cut}
 use Rattle.time.specs.Time.{readTime}
-use Rattle.coord.specs.Coord.{readCoord, latitude, longitude}
-use Rattle.coord.specs.declared.Compass.{Compass}
-use Rattle.coord.specs.declared.Compass.the-variants.{North, South, East, West}
+use Rattle.raw_coord.specs.Coord.{readCoord}
+use Rattle.coord.specs.Coord.{latitude, longitude}
+use Rattle.raw_coord.specs.declared.Compass.{Compass}
+use Rattle.raw_coord.specs.declared.Compass.the-variants.{North, South, East, West}
 use Rattle.position.specs.Position.{readBoth, readPosition}
 use Rattle.b_record.specs.BRecord.{validOf, readHeights, readFix}
 use Rattle.b_record.specs.declared.BRecord.{BRecord}

@@ -1,2 +1,1 @@
 pub mod Coord
-pub mod Degrees

@@ -1,49 +1,23 @@
-// Coordinates, as src/util/coord.rs has them.
+// Latitude and longitude, types apart over one coordinate.
 pub mod degrees;
-pub mod latlon;
 
 ghost use mathlib.Core.Path.{_≡_};
-ghost use Prim.Native.Nat.{_+_, _≤_};
-ghost use Rattle.text.specs.Res.{_=?_, _∨?_};
-ghost use Rattle.field.specs.Field.{sized};
+ghost use Rattle.text.specs.Res.{ok};
 ghost use Rattle.put.specs.Put.{Wrote};
-ghost use Rattle.coord.specs.Coord.{compassLetter, signOf, coordOf, lettered, readCoord, newCoord, coordText};
-ghost use Rattle.coord.specs.Coord.{coordBook, compassRes, coordRes};
-use print::number::put_nat;
-use put::put_byte;
-use text::number::U8Read;
-use text::number::U16Read;
-use text::number::read_u8;
-use text::number::read_u16;
+ghost use Rattle.print.specs.Print.{Prints};
+ghost use Rattle.coord.specs.Coord.{readLatitude, readLongitude, latitudeIn, longitudeIn, latitudeBy};
+ghost use Rattle.coord.specs.Coord.{longitudeBy, newLatitude, newLongitude, latitudeText, longitudeText};
+ghost use Rattle.coord.specs.Coord.{latitudeBook, longitudeBook, latitudeRes, longitudeRes};
+use field::is_ascii;
+use print::printed::Printed;
+use raw_coord::Compass;
+use raw_coord::CoordRead;
+use raw_coord::RawCoord;
 use text::refusal::Refusal;
-
-pub enum Compass {
-    North,
-    South,
-    East,
-    West,
-}
-
-// A latitude or a longitude, of any values.
-pub struct RawCoord {
-    pub minute_thousandths: u16,
-    pub degrees: u8,
-    pub sign: Compass,
-}
 
 pub struct RawLatitude(pub RawCoord);
 
 pub struct RawLongitude(pub RawCoord);
-
-enum CompassRead {
-    Ok(Compass),
-    Refused(Refusal),
-}
-
-enum CoordRead {
-    Ok(RawCoord),
-    Refused(Refusal),
-}
 
 pub enum LatitudeRead {
     Ok(RawLatitude),
@@ -55,143 +29,168 @@ pub enum LongitudeRead {
     Refused(Refusal),
 }
 
-impl Compass {
-    // N, S, E or W.
-    pub fn letter(self) -> u8
-        ensures { λ r. ⌜ r ≡ compassLetter self ⌝ }
+impl RawLatitude {
+    // A latitude of degrees to 90 and N or S.
+    pub fn new(degrees: u8, thousandths: u16, sign: Compass) -> LatitudeRead
+        ensures { λ r. ⌜ latitudeRes r ≡ newLatitude degrees thousandths sign ⌝ }
     {
-        match self {
-            Compass::North => b'N',
-            Compass::South => b'S',
-            Compass::East => b'E',
-            Compass::West => b'W',
+        match RawCoord::new(
+            90,
+            Compass::North,
+            Compass::South,
+            degrees,
+            thousandths,
+            sign,
+        ) {
+            CoordRead::Ok(coord) => LatitudeRead::Ok(RawLatitude(coord)),
+            CoordRead::Refused(no) => LatitudeRead::Refused(no),
         }
+    }
+
+    // Of its two numbers and its letter, as reading takes them.
+    pub fn lettered(degrees: u8, thousandths: u16, letter: u8) -> LatitudeRead
+        ensures { λ r. ⌜ latitudeRes r ≡ latitudeBy degrees thousandths letter ⌝ }
+    {
+        match RawCoord::lettered(
+            90,
+            Compass::North,
+            Compass::South,
+            degrees,
+            thousandths,
+            letter,
+        ) {
+            CoordRead::Ok(coord) => LatitudeRead::Ok(RawLatitude(coord)),
+            CoordRead::Refused(no) => LatitudeRead::Refused(no),
+        }
+    }
+
+    // Reads eight bytes that are known to be ASCII.
+    pub fn parse_ascii(text: &[u8]) -> LatitudeRead
+        ensures { λ r. ⌜ latitudeRes r ≡ latitudeIn (now (text .entry)) ⌝ }
+    {
+        match RawCoord::parse_ascii(text, 2, 90, Compass::North, Compass::South) {
+            CoordRead::Ok(coord) => LatitudeRead::Ok(RawLatitude(coord)),
+            CoordRead::Refused(no) => LatitudeRead::Refused(no),
+        }
+    }
+
+    // Reads a latitude of eight bytes.
+    pub fn parse(text: &[u8]) -> LatitudeRead
+        ensures { λ r. ⌜ latitudeRes r ≡ readLatitude (now (text .entry)) ⌝ }
+    {
+        if text.len() != 8 {
+            return LatitudeRead::Refused(Refusal::WrongLength);
+        }
+        if !is_ascii(text) {
+            return LatitudeRead::Refused(Refusal::NotAscii);
+        }
+        RawLatitude::parse_ascii(text)
+    }
+
+    // A latitude that the globe has: none past the pole.
+    pub fn by_the_book(self) -> bool
+        ensures { λ r. ⌜ r ≡ latitudeBook self ⌝ }
+    {
+        self.0.by_the_book(90)
+    }
+
+    // The text as a piece, from a place on.
+    pub fn put(self, buf: &mut [u8], at: usize) -> usize
+        ensures { λ r. ⌜ Wrote (now (buf .entry)) at (latitudeText self) (now (buf .exit)) r ⌝ }
+    {
+        self.0.put(buf, at, 2)
+    }
+
+    // Prints it.
+    pub fn print(self, buf: &mut [u8]) -> Printed
+        ensures { λ r. ⌜ Prints (ok (latitudeText self)) (now (buf .entry)) (now (buf .exit)) r ⌝ }
+    {
+        if buf.len() < self.put(&mut [], 0) {
+            return Printed::Refused(Refusal::NoRoom);
+        }
+        Printed::Written(self.put(buf, 0))
     }
 }
 
-// x or y, by its letter.
-fn sign_of(letter: u8, x: Compass, y: Compass) -> CompassRead
-    ensures { λ r. ⌜ compassRes r ≡ signOf x y letter ⌝ }
-{
-    if letter == x.letter() {
-        return CompassRead::Ok(x);
-    }
-    if letter == y.letter() {
-        return CompassRead::Ok(y);
-    }
-    CompassRead::Refused(Refusal::Syntax)
-}
-
-// The direction is x or y.
-fn one_of(sign: Compass, x: Compass, y: Compass) -> bool
-    ensures { λ r. ⌜ r ≡ ((compassLetter sign =? compassLetter x) ∨? (compassLetter sign =? compassLetter y)) ⌝ }
-{
-    let letter = sign.letter();
-    if letter == x.letter() {
-        return true;
-    }
-    letter == y.letter()
-}
-
-impl RawCoord {
-    // A coordinate as reading takes it: 60000 thousandths pass.
-    fn within(limit: u8, degrees: u8, thousandths: u16, sign: Compass) -> CoordRead
-        ensures { λ r. ⌜ coordRes r ≡ coordOf limit degrees thousandths sign ⌝ }
+impl RawLongitude {
+    // A longitude of degrees to 180 and E or W.
+    pub fn new(degrees: u8, thousandths: u16, sign: Compass) -> LongitudeRead
+        ensures { λ r. ⌜ longitudeRes r ≡ newLongitude degrees thousandths sign ⌝ }
     {
-        if degrees <= limit {
-            if thousandths <= 60000 {
-                return CoordRead::Ok(RawCoord {
-                    minute_thousandths: thousandths,
-                    degrees,
-                    sign,
-                });
-            }
-        }
-        CoordRead::Refused(Refusal::OutOfRange)
-    }
-
-    // The same with the direction by its letter, which is looked at first.
-    fn lettered(
-        limit: u8,
-        x: Compass,
-        y: Compass,
-        degrees: u8,
-        thousandths: u16,
-        letter: u8,
-    ) -> CoordRead
-        ensures { λ r. ⌜ coordRes r ≡ lettered limit x y degrees thousandths letter ⌝ }
-    {
-        match sign_of(letter, x, y) {
-            CompassRead::Ok(sign) => RawCoord::within(limit, degrees, thousandths, sign),
-            CompassRead::Refused(no_sign) => CoordRead::Refused(no_sign),
+        match RawCoord::new(
+            180,
+            Compass::East,
+            Compass::West,
+            degrees,
+            thousandths,
+            sign,
+        ) {
+            CoordRead::Ok(coord) => LongitudeRead::Ok(RawLongitude(coord)),
+            CoordRead::Refused(no) => LongitudeRead::Refused(no),
         }
     }
 
-    // A coordinate as construction takes it: below 60000 thousandths, and of the two directions x and y.
-    fn new(
-        limit: u8,
-        x: Compass,
-        y: Compass,
-        degrees: u8,
-        thousandths: u16,
-        sign: Compass,
-    ) -> CoordRead
-        ensures { λ r. ⌜ coordRes r ≡ newCoord limit x y degrees thousandths sign ⌝ }
+    // Of its two numbers and its letter, as reading takes them.
+    pub fn lettered(degrees: u8, thousandths: u16, letter: u8) -> LongitudeRead
+        ensures { λ r. ⌜ longitudeRes r ≡ longitudeBy degrees thousandths letter ⌝ }
     {
-        if degrees <= limit {
-            if thousandths <= 59999 {
-                if one_of(sign, x, y) {
-                    return CoordRead::Ok(RawCoord {
-                        minute_thousandths: thousandths,
-                        degrees,
-                        sign,
-                    });
-                }
-            }
+        match RawCoord::lettered(
+            180,
+            Compass::East,
+            Compass::West,
+            degrees,
+            thousandths,
+            letter,
+        ) {
+            CoordRead::Ok(coord) => LongitudeRead::Ok(RawLongitude(coord)),
+            CoordRead::Refused(no) => LongitudeRead::Refused(no),
         }
-        CoordRead::Refused(Refusal::OutOfRange)
     }
 
-    // d characters of degrees, five of thousandths, a letter, in a text that the caller knows to be ASCII.
-    fn parse_ascii(text: &[u8], d: usize, limit: u8, x: Compass, y: Compass) -> CoordRead
-        requires { ⌜ d ≤ 3 ⌝ }
-        ensures { λ r. ⌜ coordRes r ≡ sized (d + 6) (readCoord d limit x y) (now (text .entry)) ⌝ }
+    // Reads nine bytes that are known to be ASCII.
+    pub fn parse_ascii(text: &[u8]) -> LongitudeRead
+        ensures { λ r. ⌜ longitudeRes r ≡ longitudeIn (now (text .entry)) ⌝ }
     {
-        if text.len() != d + 6 {
-            return CoordRead::Refused(Refusal::WrongLength);
+        match RawCoord::parse_ascii(text, 3, 180, Compass::East, Compass::West) {
+            CoordRead::Ok(coord) => LongitudeRead::Ok(RawLongitude(coord)),
+            CoordRead::Refused(no) => LongitudeRead::Refused(no),
         }
-        let degrees = match read_u8(&text[0..d]) {
-            U8Read::Ok(whole) => whole,
-            U8Read::Refused(no_degrees) => return CoordRead::Refused(no_degrees.moved(0)),
-        };
-        let e = d + 5;
-        let thousandths = match read_u16(&text[d..e]) {
-            U16Read::Ok(small) => small,
-            U16Read::Refused(no_thousandths) => return CoordRead::Refused(no_thousandths.moved(d)),
-        };
-        RawCoord::lettered(limit, x, y, degrees, thousandths, text[e])
     }
 
-    // A coordinate up to a limit, which only latitude and longitude know.
-    fn by_the_book(self, limit: u8) -> bool
-        ensures { λ r. ⌜ r ≡ coordBook limit self ⌝ }
+    // Reads a longitude of nine bytes.
+    pub fn parse(text: &[u8]) -> LongitudeRead
+        ensures { λ r. ⌜ longitudeRes r ≡ readLongitude (now (text .entry)) ⌝ }
     {
-        if self.degrees == limit {
-            return self.minute_thousandths == 0;
+        if text.len() != 9 {
+            return LongitudeRead::Refused(Refusal::WrongLength);
         }
-        if limit < self.degrees {
-            return false;
+        if !is_ascii(text) {
+            return LongitudeRead::Refused(Refusal::NotAscii);
         }
-        self.minute_thousandths <= 59999
+        RawLongitude::parse_ascii(text)
     }
 
-    // Degrees in width d.
-    fn put(self, buf: &mut [u8], at: usize, d: usize) -> usize
-        ensures { λ r. ⌜ Wrote (now (buf .entry)) at (coordText d self) (now (buf .exit)) r ⌝ }
+    // A longitude that the globe has: none past 180 degrees.
+    pub fn by_the_book(self) -> bool
+        ensures { λ r. ⌜ r ≡ longitudeBook self ⌝ }
     {
-        let sign = self.sign;
-        let at_minutes = put_nat(buf, at, self.degrees as u64, d);
-        let at_letter = put_nat(buf, at_minutes, self.minute_thousandths as u64, 5);
-        put_byte(buf, at_letter, sign.letter())
+        self.0.by_the_book(180)
+    }
+
+    // The text as a piece, from a place on.
+    pub fn put(self, buf: &mut [u8], at: usize) -> usize
+        ensures { λ r. ⌜ Wrote (now (buf .entry)) at (longitudeText self) (now (buf .exit)) r ⌝ }
+    {
+        self.0.put(buf, at, 3)
+    }
+
+    // Prints it.
+    pub fn print(self, buf: &mut [u8]) -> Printed
+        ensures { λ r. ⌜ Prints (ok (longitudeText self)) (now (buf .entry)) (now (buf .exit)) r ⌝ }
+    {
+        if buf.len() < self.put(&mut [], 0) {
+            return Printed::Refused(Refusal::NoRoom);
+        }
+        Printed::Written(self.put(buf, 0))
     }
 }

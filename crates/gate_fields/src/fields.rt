@@ -1,5 +1,4 @@
 // "Fields": each is read and printed again.
-use coord::Compass;
 use coord::LatitudeRead;
 use coord::LongitudeRead;
 use coord::RawLatitude;
@@ -14,6 +13,7 @@ use manufacturer::Manufacturer;
 use manufacturer::MaybeTriple;
 use position::PositionRead;
 use position::RawPosition;
+use raw_coord::Compass;
 use time::Time;
 use time::TimeRead;
 

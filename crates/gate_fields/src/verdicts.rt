@@ -1,13 +1,13 @@
 // "By the book": the verdicts on fields that are read, and on values that no reading gives.
-use coord::Compass;
 use coord::LatitudeRead;
 use coord::LongitudeRead;
-use coord::RawCoord;
 use coord::RawLatitude;
 use coord::RawLongitude;
 use date::Date;
 use date::DateRead;
 use gate_say as say;
+use raw_coord::Compass;
+use raw_coord::RawCoord;
 
 fn verdict(by_the_book: bool) {
     if by_the_book {

@@ -4,8 +4,8 @@ use Rattle.part.specs.declared.{Part.Part, MaybePart.MaybePart}
 use Rattle.field.specs.Field.{mnemonicText}
 use Rattle.time.specs.declared.Time.{Time}
 use Rattle.date.specs.declared.Date.{Date}
-use Rattle.coord.specs.Coord.{compassLetter}
-use Rattle.coord.specs.declared.RawCoord.{RawCoord}
+use Rattle.raw_coord.specs.Coord.{compassLetter}
+use Rattle.raw_coord.specs.declared.RawCoord.{RawCoord}
 use Rattle.position.specs.declared.RawPosition.{RawPosition}
 use Rattle.manufacturer.specs.declared.{MaybeLetter.MaybeLetter, MaybeTriple.MaybeTriple}
 use Rattle.b_record.specs.BRecord.{pressureText, gpsText}

@@ -5,7 +5,6 @@ ghost use Rattle.piece_text.specs.Piece.{threeShown, timeShown, dateShow
 ghost use Rattle.piece_text.specs.Piece.{positionShown};
 ghost use Rattle.piece_text.specs.Piece.{letterShown, tripleShown};
 use c_record::MaybeDate;
-use coord::RawCoord;
 use date::Date;
 use manufacturer::MaybeLetter;
 use manufacturer::MaybeTriple;
@@ -14,6 +13,7 @@ use part::Part;
 use position::RawPosition;
 use print::number::put_nat;
 use put::put_byte;
+use raw_coord::RawCoord;
 use time::Time;
 
 // A number in plain decimal.

@@ -8,6 +8,7 @@ use Rattle.print.proofs.Answers.{prints-one, wrote-one}
 use Rattle.three.proofs.Answers.{three-undone}
 use Rattle.time.proofs.Answers.{time-undone}
 use Rattle.date.proofs.Answers.{date-undone}
+use Rattle.raw_coord.proofs.Answers.{coord-undone}
 use Rattle.coord.proofs.Answers.{latitude-undone, longitude-undone}
 use Rattle.position.proofs.Answers.{position-undone}
 use Rattle.satellites.proofs.Answers.{satellites-undone}
@@ -56,6 +57,7 @@ determined = record {
   three = tells _ _ _ three-undone;
   time = tells _ _ _ time-undone;
   date = tells _ _ _ date-undone;
+  coord = tells _ _ _ coord-undone;
   latitude = tells _ _ _ latitude-undone;
   longitude = tells _ _ _ longitude-undone;
   position = tells _ _ _ position-undone;

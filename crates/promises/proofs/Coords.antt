@@ -3,10 +3,10 @@ use Rattle.text.specs.Prelude.{ℕ, _+_, _≡_, Bool, List, [], _∷_, _++_, le
 use Rattle.text.proofs.Prelude.{arith, refl, sym, is=}
 use native.Mathlib.Nat.{zero-add}
 use Rattle.text.proofs.Finds.{Finds, finds-ok, finds-no, finds-bind, finds-guard, finds-pick}
-use Rattle.coord.specs.Coord.{compassLetter, signOf, coordOf, lettered, readCoord, coordText, latitude, longitude}
-use Rattle.coord.specs.Coord.{latitudeIn, longitudeIn, latitudeText, longitudeText}
-use Rattle.coord.specs.declared.Compass.{Compass}
-use Rattle.coord.specs.declared.Compass.the-variants.{North, South, East, West}
+use Rattle.raw_coord.specs.Coord.{compassLetter, signOf, coordOf, lettered, readCoord, coordText}
+use Rattle.coord.specs.Coord.{latitude, longitude, latitudeIn, longitudeIn, latitudeText, longitudeText}
+use Rattle.raw_coord.specs.declared.Compass.{Compass}
+use Rattle.raw_coord.specs.declared.Compass.the-variants.{North, South, East, West}
 use Rattle.position.specs.Position.{readBoth, readPosition, positionText}
 use Rattle.promises.specs.Odd.{coordPlus, positionPlus}
 use Rattle.promises.proofs.Columns.{cut-joined, last-byte, finds-columns, finds-sized, finds-field}

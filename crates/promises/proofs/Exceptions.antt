@@ -9,6 +9,7 @@ use Rattle.field.specs.Field.{isAscii, sized, asciiIn, ascii, field, mnemonicTe
 use Rattle.three.specs.Three.{readThree, threeText}
 use Rattle.time.specs.Time.{timeOf, readTime, timeText}
 use Rattle.date.specs.Date.{dateOf, readDate, dateText}
+use Rattle.raw_coord.specs.Coord as raw
 use Rattle.coord.specs.Coord as coord
 use Rattle.position.specs.Position as position
 use Rattle.manufacturer.specs.Maker as maker
@@ -37,7 +38,7 @@ unfolding
     isDigit allDigits firstOther valueFrom readDigits readNat readInt digits placesIn placesOf padded signed zeros
     isAscii cut
     columns sized asciiIn ascii field mnemonicText readThree threeText timeOf readTime timeText dateOf readDate
-    dateText coord.compassLetter coord.signOf coord.coordOf coord.lettered coord.readCoord coord.coordText
+    dateText raw.compassLetter raw.signOf raw.coordOf raw.lettered raw.readCoord raw.coordText
     coord.latitude coord.longitude coord.latitudeIn coord.longitudeIn position.readBoth position.readPosition
     position.positionText maker.letterOf maker.tripleSpelt maker.tripleOf maker.known maker.firstOf maker.isLetter
     maker.letterMaker readDefinition readExtension extensionText tableOf readDefs readBody isTable readTable defsOf

@@ -14,10 +14,10 @@ use Rattle.field.proofs.Digits.{other-inside}
 use Rattle.three.specs.Three.{readThree}
 use Rattle.time.specs.Time.{timeOf, readTime}
 use Rattle.date.specs.Date.{dateOf, readDate}
-use Rattle.coord.specs.Coord.{readCoord, lettered, signOf, coordOf, latitude, longitude, latitudeIn, longitudeIn}
-use Rattle.coord.specs.Coord.{readLatitude, readLongitude}
-use Rattle.coord.specs.declared.{Compass.Compass}
-use Rattle.coord.specs.declared.Compass.the-variants.{North, South, East, West}
+use Rattle.raw_coord.specs.Coord.{readCoord, lettered, signOf, coordOf}
+use Rattle.coord.specs.Coord.{latitude, longitude, latitudeIn, longitudeIn, readLatitude, readLongitude}
+use Rattle.raw_coord.specs.declared.Compass.{Compass}
+use Rattle.raw_coord.specs.declared.Compass.the-variants.{North, South, East, West}
 use Rattle.position.specs.Position.{readBoth, readPosition}
 use Rattle.satellites.specs.Satellites.{readNumbers, readSatellites}
 use Rattle.extension.specs.Extension.{readDefinition, readExtension}

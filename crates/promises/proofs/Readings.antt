@@ -9,7 +9,8 @@ use Rattle.field.specs.Field.{isAscii, sized, asciiIn, ascii, field, mnemonicTe
 use Rattle.three.specs.Three.{readThree, threeText}
 use Rattle.time.specs.Time.{timeOf, readTime, timeText, secondsOf}
 use Rattle.date.specs.Date.{dateOf, readDate, dateText}
-use Rattle.coord.specs.Coord.{compassLetter, signOf, coordOf, lettered, readCoord, latitude, readLatitude}
+use Rattle.raw_coord.specs.Coord.{compassLetter, signOf, coordOf, lettered, readCoord}
+use Rattle.coord.specs.Coord.{latitude, readLatitude}
 use Rattle.manufacturer.specs.Maker as maker
 use Rattle.extension.specs.Extension.{readDefinition, readExtension}
 use Rattle.table.specs.Table.{readDefs, readBody, isTable, readTable}

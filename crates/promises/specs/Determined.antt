@@ -12,6 +12,7 @@ use Rattle.print.specs.declared.printed.Printed.{Printed}
 use Rattle.three.specs.Three.{threeRes}
 use Rattle.time.specs.Time.{timeRes}
 use Rattle.date.specs.Date.{dateRes}
+use Rattle.raw_coord.specs.Coord.{coordRes}
 use Rattle.coord.specs.Coord.{latitudeRes, longitudeRes}
 use Rattle.position.specs.Position.{positionRes}
 use Rattle.satellites.specs.Satellites.{satellitesRes}
@@ -52,6 +53,7 @@ pub record Determined : Type 1 where
   pub three : Tells threeRes
   pub time : Tells timeRes
   pub date : Tells dateRes
+  pub coord : Tells coordRes
   pub latitude : Tells latitudeRes
   pub longitude : Tells longitudeRes
   pub position : Tells positionRes

@@ -5,7 +5,7 @@ use Rattle.text.specs.declared.refusal.Refusal.the-variants.{Syntax, Unreadable
 use Rattle.part.specs.declared.MaybePart.{MaybePart}
 use Rattle.time.specs.Time.{readTime, secondsOf}
 use Rattle.coord.specs.Coord.{readLatitude}
-use Rattle.coord.specs.declared.Compass.the-variants.{North}
+use Rattle.raw_coord.specs.declared.Compass.the-variants.{North}
 use Rattle.manufacturer.specs.declared.Manufacturer.the-variants.{UnknownSingle}
 use Rattle.extension.specs.Value.{findValue}
 use Rattle.c_record.specs.CRecord.{readDeclaration}

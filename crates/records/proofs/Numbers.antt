@@ -7,7 +7,8 @@ use Rattle.field.specs.Field.{sized, asciiIn, ascii, field}
 use Rattle.three.specs.Three.{readThree}
 use Rattle.time.specs.Time.{timeOf, readTime}
 use Rattle.date.specs.Date.{dateOf, readDate}
-use Rattle.coord.specs.Coord.{readCoord, lettered, signOf, coordOf, latitude, longitude, latitudeIn, longitudeIn}
+use Rattle.raw_coord.specs.Coord.{readCoord, lettered, signOf, coordOf}
+use Rattle.coord.specs.Coord.{latitude, longitude, latitudeIn, longitudeIn}
 use Rattle.position.specs.Position.{readBoth, readPosition}
 use Rattle.extension.specs.Extension.{readDefinition, readExtension}
 use Rattle.table.specs.Table.{readDefs, readBody, readTable}

@@ -1,5 +1,6 @@
 use Rattle.text.proofs.Prelude.{needs, refl, came, on, off}
-use Rattle.coord.specs.Coord.{coordRes, latitude, latitudeBy}
+use Rattle.raw_coord.specs.Coord.{coordRes}
+use Rattle.coord.specs.Coord.{latitude, latitudeBy}
 use Rattle.coord.proofs.RawLatitude.lettered.Statement.{statement}
 use Rattle.coord.proofs.RawLatitude.lettered.Tie as tie
 

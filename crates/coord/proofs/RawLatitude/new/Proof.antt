@@ -1,5 +1,6 @@
 use Rattle.text.proofs.Prelude.{needs, refl, came, on, off}
-use Rattle.coord.specs.Coord.{coordRes, latitude, newLatitude}
+use Rattle.raw_coord.specs.Coord.{coordRes}
+use Rattle.coord.specs.Coord.{latitude, newLatitude}
 use Rattle.coord.proofs.RawLatitude.new.Statement.{statement}
 use Rattle.coord.proofs.RawLatitude.new.Tie as tie
 

@@ -1,5 +1,6 @@
 use Rattle.text.proofs.Prelude.{needs, refl, came, on, off}
-use Rattle.coord.specs.Coord.{coordRes, longitude, longitudeBy}
+use Rattle.raw_coord.specs.Coord.{coordRes}
+use Rattle.coord.specs.Coord.{longitude, longitudeBy}
 use Rattle.coord.proofs.RawLongitude.lettered.Statement.{statement}
 use Rattle.coord.proofs.RawLongitude.lettered.Tie as tie
 

@@ -1,5 +1,6 @@
 use Rattle.text.proofs.Prelude.{needs, refl, came, on, off}
-use Rattle.coord.specs.Coord.{coordRes, longitude, newLongitude}
+use Rattle.raw_coord.specs.Coord.{coordRes}
+use Rattle.coord.specs.Coord.{longitude, newLongitude}
 use Rattle.coord.proofs.RawLongitude.new.Statement.{statement}
 use Rattle.coord.proofs.RawLongitude.new.Tie as tie
 

@@ -1,5 +1,6 @@
 use Rattle.text.proofs.Prelude.{needs, refl, came, on, off}
-use Rattle.coord.specs.Coord.{coordRes, longitude, longitudeIn}
+use Rattle.raw_coord.specs.Coord.{coordRes}
+use Rattle.coord.specs.Coord.{longitude, longitudeIn}
 use Rattle.coord.proofs.RawLongitude.parse_ascii.Statement.{statement}
 use Rattle.coord.proofs.RawLongitude.parse_ascii.Tie as tie
 

@@ -1,7 +1,7 @@
 use Rattle.text.proofs.Prelude.{needs, came, on, off}
-use Rattle.coord.specs.Coord.{compassRes, lettered}
-use Rattle.coord.proofs.RawCoord.lettered.Statement.{statement}
-use Rattle.coord.proofs.RawCoord.lettered.Tie as tie
+use Rattle.raw_coord.specs.Coord.{compassRes, lettered}
+use Rattle.raw_coord.proofs.RawCoord.lettered.Statement.{statement}
+use Rattle.raw_coord.proofs.RawCoord.lettered.Tie as tie
 
 pub lettered-spec : {M : Type 1} → statement M
 unfolding lettered

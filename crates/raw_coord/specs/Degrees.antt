@@ -1,8 +1,8 @@
 -- A coordinate in degrees, in the logic's IEEE 754: each step rounded once, to the nearest, ties to even.
 use Rattle.text.specs.Prelude.{pos}
 use lib.Ieee.{Float, Format, add, div, neg, ofInt}
-use Rattle.coord.specs.declared.{Compass.Compass, RawCoord.RawCoord}
-use Rattle.coord.specs.declared.Compass.the-variants.{North, South, East, West}
+use Rattle.raw_coord.specs.declared.{Compass.Compass, RawCoord.RawCoord}
+use Rattle.raw_coord.specs.declared.Compass.the-variants.{North, South, East, West}
 
 -- Negated for S and W, where zero becomes negative zero.
 unfoldable pub bySign : Compass → Float → Float

@@ -3,8 +3,8 @@ use Rattle.text.specs.Prelude.{ℕ, _≡_, pos}
 use Rattle.text.proofs.Prelude.{refl}
 use lib.Count.{trailingZeros}
 use lib.Ieee.{Format, binary32, binary64, add, div, ofInt, ofBits, ofFields, odd, round, size, span, climb, units}
-use Rattle.coord.specs.Degrees.{bySign, degreesOf}
-use Rattle.coord.specs.declared.{Compass.Compass, RawCoord.RawCoord}
+use Rattle.raw_coord.specs.Degrees.{bySign, degreesOf}
+use Rattle.raw_coord.specs.declared.{Compass.Compass, RawCoord.RawCoord}
 
 -- the bits of the code's 60000.0
 abbrev pub bits : Format → ℕ

@@ -1,10 +1,10 @@
-use Rattle.text.specs.Prelude.{ℕ, _+_, _≡_, List, now, Res, ok, no, cut, columns, readNat}
-use Rattle.text.proofs.Prelude.{needs, came, on, off, found-in, refused-in, pass, stop, yes=, no=}
+use Rattle.text.specs.Prelude.{ℕ, _+_, _≡_, List, length, now, Res, ok, no, cut, columns, readNat}
+use Rattle.text.proofs.Prelude.{needs, arith, came, on, off, found-in, refused-in, pass, stop, yes=, no=}
 use Rattle.text.specs.Number.{u8Res, u16Res}
 use Rattle.field.specs.Field.{sized}
-use Rattle.coord.specs.Coord.{readCoord}
-use Rattle.coord.proofs.RawCoord.parse_ascii.Statement.{statement}
-use Rattle.coord.proofs.RawCoord.parse_ascii.Tie as tie
+use Rattle.raw_coord.specs.Coord.{readCoord}
+use Rattle.raw_coord.proofs.RawCoord.parse_ascii.Statement.{statement}
+use Rattle.raw_coord.proofs.RawCoord.parse_ascii.Tie as tie
 
 abbrev text : tie.Start → List ℕ
 text b = now (b .args .text)
@@ -15,6 +15,13 @@ whole b = columns 0 (b .args .d) (readNat 255) (text b)
 
 abbrev small : tie.Start → Res ℕ
 small b = columns (b .args .d) (b .args .d + 5) (readNat 65535) (text b)
+
+abbrev AsLong : tie.Start → Type 0
+AsLong b = length (text b) ≡ b .args .d + 6
+
+-- a text that passes both tests is as long as it must be
+long : (c : tie.Else2) → AsLong (search needs)
+long c = omega arith
 
 degrees : (c : tie.After-whole) → ok (c .whole .given .0 .0) ≡ whole (search needs)
 unfolding columns cut
@@ -41,13 +48,15 @@ unfolding sized readCoord
 parse-ascii-spec =
     tie.close
     (tie.spec
+    (λ c. stop _ (no= (omega arith)))
     (search needs)
-    (λ c. stop _ (no= (search needs)))
+    (λ c. stop _ (no= (omega arith)))
     (search needs) (search needs) (search needs) (search needs) (search needs) (search needs) (search needs)
-    (λ c. pass _ (yes= (search needs)) (off _ (no-degrees (search needs))))
+    (λ c. pass _ (yes= (long (search needs))) (off _ (no-degrees (search needs))))
     (search needs) (search needs) (search needs) (search needs) (search needs) (search needs) (search needs)
     (search needs)
-    (λ c. pass _ (yes= (search needs)) (on _ (degrees (search needs)) (off _ (no-thousandths (search needs)))))
+    (λ c. pass _ (yes= (long (search needs)))
+    (on _ (degrees (search needs)) (off _ (no-thousandths (search needs)))))
     (search needs) (search needs)
-    (λ c. pass _ (yes= (search needs))
+    (λ c. pass _ (yes= (long (search needs)))
     (on _ (degrees (search needs)) (on _ (thousandths (search needs)) (c .lettered .ensures)))))

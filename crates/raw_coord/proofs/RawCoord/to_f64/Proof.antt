@@ -1,9 +1,9 @@
 use Rattle.text.proofs.Prelude.{needs}
 use lib.Ieee.{binary64}
-use Rattle.coord.specs.Degrees.{bySign}
-use Rattle.coord.proofs.Floats.{by-sign}
-use Rattle.coord.proofs.RawCoord.to_f64.Statement.{statement}
-use Rattle.coord.proofs.RawCoord.to_f64.Tie as tie
+use Rattle.raw_coord.specs.Degrees.{bySign}
+use Rattle.raw_coord.proofs.Floats.{by-sign}
+use Rattle.raw_coord.proofs.RawCoord.to_f64.Statement.{statement}
+use Rattle.raw_coord.proofs.RawCoord.to_f64.Tie as tie
 
 pub to-f64-spec : {M : Type 1} → statement M
 unfolding bySign

@@ -1,8 +1,8 @@
 use Rattle.text.specs.Prelude.{_∨?_}
 use Rattle.text.proofs.Prelude.{needs, refl, first, second, yes=, no=}
-use Rattle.coord.proofs.Tests.{same}
-use Rattle.coord.proofs.one_of.Statement.{statement}
-use Rattle.coord.proofs.one_of.Tie as tie
+use Rattle.raw_coord.proofs.Tests.{same}
+use Rattle.raw_coord.proofs.one_of.Statement.{statement}
+use Rattle.raw_coord.proofs.one_of.Tie as tie
 
 pub one-of-spec : {M : Type 1} → statement M
 unfolding _∨?_

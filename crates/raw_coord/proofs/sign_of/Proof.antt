@@ -1,7 +1,7 @@
 use Rattle.text.proofs.Prelude.{needs, refl, first, second, yes=, no=}
-use Rattle.coord.specs.Coord.{signOf}
-use Rattle.coord.proofs.sign_of.Statement.{statement}
-use Rattle.coord.proofs.sign_of.Tie as tie
+use Rattle.raw_coord.specs.Coord.{signOf}
+use Rattle.raw_coord.proofs.sign_of.Statement.{statement}
+use Rattle.raw_coord.proofs.sign_of.Tie as tie
 
 pub sign-of-spec : {M : Type 1} → statement M
 unfolding signOf

@@ -1,7 +1,7 @@
 use Rattle.text.proofs.Prelude.{needs, sym, ap}
-use Rattle.coord.specs.Coord.{compassLetter}
-use Rattle.coord.proofs.Compass.letter.Statement.{statement}
-use Rattle.coord.proofs.Compass.letter.Tie as tie
+use Rattle.raw_coord.specs.Coord.{compassLetter}
+use Rattle.raw_coord.proofs.Compass.letter.Statement.{statement}
+use Rattle.raw_coord.proofs.Compass.letter.Tie as tie
 
 pub letter-spec : {M : Type 1} → statement M
 unfolding compassLetter

@@ -1,8 +1,8 @@
 use Rattle.text.proofs.Prelude.{needs}
 use Rattle.put.proofs.Writing.{then}
-use Rattle.coord.specs.Coord.{coordText}
-use Rattle.coord.proofs.RawCoord.put.Statement.{statement}
-use Rattle.coord.proofs.RawCoord.put.Tie as tie
+use Rattle.raw_coord.specs.Coord.{coordText}
+use Rattle.raw_coord.proofs.RawCoord.put.Statement.{statement}
+use Rattle.raw_coord.proofs.RawCoord.put.Tie as tie
 
 -- the byte that is put last is the letter
 returns : tie.Need-returns

@@ -1,7 +1,7 @@
 use Rattle.text.proofs.Prelude.{needs, refl, sym, _∙_, pass, stop, yes≤, no≤, holds, fails}
-use Rattle.coord.specs.Coord.{newCoord}
-use Rattle.coord.proofs.RawCoord.new.Statement.{statement}
-use Rattle.coord.proofs.RawCoord.new.Tie as tie
+use Rattle.raw_coord.specs.Coord.{newCoord}
+use Rattle.raw_coord.proofs.RawCoord.new.Statement.{statement}
+use Rattle.raw_coord.proofs.RawCoord.new.Tie as tie
 
 pub new-spec : {M : Type 1} → statement M
 unfolding newCoord
