@@ -6,7 +6,7 @@ use Rattle.text.specs.Spelt.{spelt, speltFrom}
 use Rattle.text.proofs.Prelude.{arith, refl, sym, ap, _∙_, subst, append-assoc, second, yes≤, yes=, no=, is≤, is=}
 use Rattle.text.proofs.Prelude.{both, holds, by-test}
 use Rattle.report.specs.Counts.{numbers}
-use Rattle.total.specs.Total.{allFit}
+use Rattle.span.specs.Span.{allFit}
 use Rattle.sheet_text.specs.Sheet.{numberLine, answerLine, answerLines}
 use Rattle.block_read.specs.Read.{Read, got, next, startsWith, readNumber}
 use Rattle.block_read.specs.Block.{readCount, readAnswer, readAnswers}

@@ -2,7 +2,8 @@
 use Rattle.text.specs.Prelude.{pick, _=?_, _∧?_}
 use Rattle.text.specs.Spelt.{spelt, speltFrom}
 use Rattle.text.proofs.Prelude.{refl, append-assoc, yes≤, is≤, both, and}
-use Rattle.total.specs.Total.{allFit, totalFits}
+use Rattle.span.specs.Span.{allFit}
+use Rattle.total.specs.Total.{totalFits}
 use Rattle.sheet_text.specs.Sheet.{numberLine, heightLine, pressureSpotLine, gpsSpotLine, countLines, figureLines}
 use Rattle.sheet_text.specs.Sheet.{allText}
 use Rattle.block_read.specs.Read.{startsWith}

@@ -4,8 +4,8 @@ use Rattle.text.specs.Prelude.{_=?_, LF, ℤ, largest}
 use Rattle.text.specs.Spelt.{spelt}
 use Rattle.report.specs.Range.{Range, none, between}
 use Rattle.report.specs.Counts.{numbers}
+use Rattle.span.specs.declared.{pressure.PressureSpot.PressureSpot, gps.GpsSpot.GpsSpot}
 use Rattle.total.specs.Total.{Totals, noLogs, totalIn}
-use Rattle.total.specs.declared.{pressure.PressureSpot.PressureSpot, gps.GpsSpot.GpsSpot}
 use Rattle.sheet_text.specs.Sheet.{noneLine}
 use Rattle.block_read.specs.Read.{Read, got, wrong, next, startsWith, readWords, readNumber, readHeight, readLine}
 use Rattle.block_read.specs.declared.BlockRead.{BlockRead}

@@ -1,9 +1,9 @@
 -- Reading a block undoes printing it.
 use Rattle.text.specs.Prelude.{ℕ, _≤_, _≡_, true, List, _++_, length, ℤ, pos, negsuc, largest}
 use Rattle.report.specs.Counts.{numbers}
+use Rattle.span.specs.declared.{pressure.PressureSpot.PressureSpot, gps.GpsSpot.GpsSpot}
 use Rattle.total.specs.Total.{Totals, totalFits}
 use Rattle.total.specs.Laws.{OfBoth}
-use Rattle.total.specs.declared.{pressure.PressureSpot.PressureSpot, gps.GpsSpot.GpsSpot}
 use Rattle.sheet_text.specs.Sheet.{allText}
 use Rattle.block_read.specs.Read.{got}
 use Rattle.block_read.specs.Block.{readAll}

@@ -2,15 +2,15 @@
 ghost use Prim.Native.Nat.{_≤_};
 ghost use lib.ListN.{length};
 ghost use Rattle.text.specs.Spelt.{spelt};
-ghost use Rattle.total.specs.Total.{gpsOver};
+ghost use Rattle.span.specs.Span.{gpsOver};
 ghost use Rattle.block_read.specs.Block.{readGps, readRange};
 ghost use Rattle.block_read.specs.Held.{Came};
 use crate::number::Place;
 use crate::number::read_spot;
 use crate::number::read_words;
 use b_record::GpsAlt;
-use total::gps::GpsSpan;
-use total::gps::GpsSpot;
+use span::gps::GpsSpan;
+use span::gps::GpsSpot;
 
 struct GpsRead {
     spot: GpsSpot,

@@ -2,15 +2,15 @@
 ghost use Prim.Native.Nat.{_≤_};
 ghost use lib.ListN.{length};
 ghost use Rattle.text.specs.Spelt.{spelt};
-ghost use Rattle.total.specs.Total.{pressureOver};
+ghost use Rattle.span.specs.Span.{pressureOver};
 ghost use Rattle.block_read.specs.Block.{readPressure, readRange};
 ghost use Rattle.block_read.specs.Held.{Came};
 use crate::number::Place;
 use crate::number::read_spot;
 use crate::number::read_words;
 use b_record::PressureAlt;
-use total::pressure::PressureSpan;
-use total::pressure::PressureSpot;
+use span::pressure::PressureSpan;
+use span::pressure::PressureSpot;
 
 struct PressureRead {
     spot: PressureSpot,

@@ -28,6 +28,7 @@ use Rattle.records.proofs.Answers.{reading-undone}
 use Rattle.report.proofs.Answers.{reportMade, report-undone}
 use Rattle.reported.specs.Reported.{SoFar}
 use Rattle.reported.specs.declared.Sofar.{Sofar}
+use Rattle.span.proofs.Answers.{pressureMade, gpsMade, pressure-undone, gps-undone}
 use Rattle.total.proofs.Answers.{totalMade, addedMade, joinedMade, total-undone, added-undone, joined-undone}
 use Rattle.block_read.specs.Block.{Block}
 use Rattle.sheet_read.specs.Sheet.{Beside}
@@ -79,6 +80,8 @@ determined = record {
   reading = tells _ _ _ reading-undone;
   report = tells-as reportMade report-undone;
   so-far = tells-as soFarMade (λ c. rw (report-undone (c .report)));
+  pressure-span = tells-as pressureMade pressure-undone;
+  gps-span = tells-as gpsMade gps-undone;
   total = tells-as totalMade total-undone;
   added = tells-as addedMade added-undone;
   joined = tells-as joinedMade joined-undone;

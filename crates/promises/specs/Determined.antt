@@ -31,6 +31,7 @@ use Rattle.l_record.specs.LRecord.{lRes}
 use Rattle.records.specs.Record.{readingRes}
 use Rattle.report.specs.Report.{figuresIn}
 use Rattle.reported.specs.Reported.{soFarIn}
+use Rattle.span.specs.Span.{pressureOver, gpsOver}
 use Rattle.total.specs.Total.{totalIn, addedIn, joinedIn}
 use Rattle.block_read.specs.Block.{blockRead}
 use Rattle.sheet_read.specs.Sheet.{sheetIn}
@@ -75,6 +76,8 @@ pub record Determined : Type 1 where
   pub reading : Tells readingRes
   pub report : Tells figuresIn
   pub so-far : Tells soFarIn
+  pub pressure-span : Tells pressureOver
+  pub gps-span : Tells gpsOver
   pub total : Tells totalIn
   pub added : Tells addedIn
   pub joined : Tells joinedIn

@@ -4,8 +4,8 @@ use Rattle.b_record.specs.BRecord.{pressureText, gpsText}
 use Rattle.report.specs.Range.{Range, none, between}
 use Rattle.report.specs.Figures.{Figures}
 use Rattle.report.specs.declared.{pressure.PressurePeak.PressurePeak, gps.GpsPeak.GpsPeak}
+use Rattle.span.specs.declared.{pressure.PressureSpot.PressureSpot, gps.GpsSpot.GpsSpot}
 use Rattle.total.specs.Total.{Totals}
-use Rattle.total.specs.declared.{pressure.PressureSpot.PressureSpot, gps.GpsSpot.GpsSpot}
 use Rattle.text.specs.Spelt.{spelt}
 
 -- ---- lines

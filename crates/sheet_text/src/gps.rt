@@ -1,7 +1,7 @@
 // Lines of GPS heights, of a log and of all logs.
 ghost use Rattle.put.specs.Put.{Wrote};
 ghost use Rattle.report.specs.Report.{gpsIn};
-ghost use Rattle.total.specs.Total.{gpsOver};
+ghost use Rattle.span.specs.Span.{gpsOver};
 ghost use Rattle.text.specs.Spelt.{spelt};
 ghost use Rattle.sheet_text.specs.Sheet.{gpsPeakLine, gpsSpotLine, rangeLines};
 use crate::line::put_place;
@@ -9,8 +9,8 @@ use crate::line::put_spot;
 use put::put_bytes;
 use report::gps::GpsPeak;
 use report::gps::GpsRange;
-use total::gps::GpsSpan;
-use total::gps::GpsSpot;
+use span::gps::GpsSpan;
+use span::gps::GpsSpot;
 
 // A height of a log with its place, behind its words.
 fn put_peak_line(buf: &mut [u8], at: usize, words: &[u8], peak: GpsPeak) -> usize

@@ -1,7 +1,7 @@
 // Lines of pressure heights, of a log and of all logs.
 ghost use Rattle.put.specs.Put.{Wrote};
 ghost use Rattle.report.specs.Report.{pressureIn};
-ghost use Rattle.total.specs.Total.{pressureOver};
+ghost use Rattle.span.specs.Span.{pressureOver};
 ghost use Rattle.text.specs.Spelt.{spelt};
 ghost use Rattle.sheet_text.specs.Sheet.{pressurePeakLine, pressureSpotLine, rangeLines};
 use crate::line::put_place;
@@ -9,8 +9,8 @@ use crate::line::put_spot;
 use put::put_bytes;
 use report::pressure::PressurePeak;
 use report::pressure::PressureRange;
-use total::pressure::PressureSpan;
-use total::pressure::PressureSpot;
+use span::pressure::PressureSpan;
+use span::pressure::PressureSpot;
 
 // A height of a log with its place, behind its words.
 fn put_peak_line(buf: &mut [u8], at: usize, words: &[u8], peak: PressurePeak) -> usize

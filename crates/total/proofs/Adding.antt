@@ -11,10 +11,11 @@ use Rattle.report.specs.Figures.{Figures, earlier}
 use Rattle.report.specs.Figures as figures
 use Rattle.report.specs.declared.{pressure.PressurePeak.PressurePeak, gps.GpsPeak.GpsPeak}
 use Rattle.report.proofs.Counts.{getD-added, length-added}
-use Rattle.total.specs.Total.{Totals, lowerPressure, lowerGps, mapped, oneLog, addRes, allFit, totalFits}
-use Rattle.total.specs.Total.{laterPressure, laterGps, laterBy, joinOf, numbersOf, joinFits, refused}
-use Rattle.total.specs.Total.{joinRes, sumsRes, Beside, beside}
-use Rattle.total.specs.declared.{pressure.PressureSpot.PressureSpot, gps.GpsSpot.GpsSpot, Sums.Sums}
+use Rattle.span.specs.Span.{lowerPressure, lowerGps, mapped, allFit, laterPressure, laterGps, numbersOf}
+use Rattle.span.specs.declared.{pressure.PressureSpot.PressureSpot, gps.GpsSpot.GpsSpot}
+use Rattle.total.specs.Total.{Totals, oneLog, addRes, totalFits, laterBy, joinOf, joinFits, refused, joinRes}
+use Rattle.total.specs.Total.{sumsRes, Beside, beside}
+use Rattle.total.specs.declared.Sums.{Sums}
 use Rattle.total.proofs.Fits.{one-over, set-fit}
 use Rattle.total.proofs.Totals.{add-joins}
 use Rattle.total.proofs.Joining.{counts, logs-split, add-fits}

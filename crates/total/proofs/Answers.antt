@@ -3,9 +3,8 @@ use Rattle.text.specs.Prelude.{ℕ, zero, suc, _≡_}
 use Rattle.text.proofs.Prelude.{refl}
 use Rattle.report.specs.declared.times.TimeRange.{TimeRange}
 use Rattle.report.proofs.Answers.{made, times-undone}
-use Rattle.total.specs.Total.{Totals, Given, Beside, pressureOver, gpsOver, totalIn, addedIn, verdictNumber}
-use Rattle.total.specs.Total.{joinedIn}
-use Rattle.total.specs.declared.{pressure.PressureSpan.PressureSpan, gps.GpsSpan.GpsSpan}
+use Rattle.span.proofs.Answers.{pressureMade, gpsMade, pressure-undone, gps-undone}
+use Rattle.total.specs.Total.{Totals, Given, Beside, totalIn, addedIn, verdictNumber, joinedIn}
 use Rattle.total.specs.declared.{Total.Total, Added.Added, Verdict.Verdict, Joined.Joined}
 
 -- what the code holds that is viewed as this total
@@ -15,8 +14,8 @@ totalMade t = record {
   logs = t .logs;
   lines = t .figures .lines;
   fixes = t .figures .fixes;
-  pressure = made PressureSpan.Missing PressureSpan.Between (t .figures .pressure);
-  gps = made GpsSpan.Missing GpsSpan.Between (t .figures .gps);
+  pressure = pressureMade (t .figures .pressure);
+  gps = gpsMade (t .figures .gps);
   times = made TimeRange.Missing TimeRange.Between (t .figures .times);
 }
 
@@ -32,14 +31,6 @@ verdictMade (suc n) = Verdict.TooLarge
 -- what it answers that is viewed as this
 abbrev pub joinedMade : Beside → Joined
 joinedMade b = record { total = totalMade (b .total); verdict = verdictMade (b .number) }
-
-pressure-undone : (r : PressureSpan) → made PressureSpan.Missing PressureSpan.Between (pressureOver r) ≡ r
-pressure-undone PressureSpan.Missing = refl
-pressure-undone (PressureSpan.Between high low) = refl
-
-gps-undone : (r : GpsSpan) → made GpsSpan.Missing GpsSpan.Between (gpsOver r) ≡ r
-gps-undone GpsSpan.Missing = refl
-gps-undone (GpsSpan.Between high low) = refl
 
 pub total-undone : (t : Total) → totalMade (totalIn t) ≡ t
 total-undone t = rw (pressure-undone (t .pressure), gps-undone (t .gps), times-undone (t .times))

@@ -1,13 +1,12 @@
 -- Counts and log numbers that fit 64 bits.
-use Rattle.text.specs.Prelude.{ℕ, zero, suc, _+_, _-_, _≤_, _<_, _≡_, Bool, true, false, List, [], _∷_, _++_, set, getD}
+use Rattle.text.specs.Prelude.{ℕ, zero, suc, _+_, _≤_, _<_, _≡_, true, false, List, [], _∷_, _++_, set, getD}
 use Rattle.text.specs.Prelude.{pick, _≤?_, _∧?_, largest}
-use Rattle.text.proofs.Prelude.{arith, refl, sym, _∙_, yes≤, no≤, is≤, holds, fails, both, by-test}
-use lib.Dec.{leb}
-use borrow.Author.Tests.{leb-true, leb-false}
+use Rattle.text.proofs.Prelude.{arith, refl, yes≤, is≤, holds, both, by-test}
 use Rattle.report.specs.Counts.{added}
-use Rattle.report.specs.Range.{Range, none, between, turned, higher, joined}
+use Rattle.report.specs.Range.{Range, none, between}
 use Rattle.report.proofs.Counts.{getD-added}
-use Rattle.total.specs.Total.{mapped, allFit, numbersOf}
+use Rattle.span.specs.Span.{mapped, allFit, numbersOf}
+use Rattle.span.proofs.Fits.{pair-fit}
 use Rattle.total.specs.Laws.{OfBoth, Numbers}
 
 -- ---- some counts
@@ -32,14 +31,6 @@ set-fit [] i n e h = e
 set-fit (m ∷ l) zero n e h = holds (yes≤ h) (both e .1)
 set-fit (m ∷ l) (suc i) n e h = holds (both e .0) (set-fit l i n (both e .1) h)
 
--- the code's test of the last sum
-pub last-fits : (k n : ℕ) → k ≤ largest → leb n (largest - k) ≡ allFit ((k + n) ∷ [])
-unfolding allFit
-last-fits k n h =
-    by-test (leb n (largest - k))
-    (λ e. e ∙ sym (holds (yes≤ (omega (arith, leb-true n (largest - k) e))) refl))
-    (λ e. e ∙ sym (fails _ (no≤ (omega (arith, leb-false n (largest - k) e)))))
-
 -- ---- in parts
 
 pub append-fit : (ns ms : List ℕ) → allFit (ns ++ ms) ≡ (allFit ns ∧? allFit ms)
@@ -56,44 +47,10 @@ module _ (ns ms : List ℕ) (e : allFit (added ns ms) ≡ true) where
 
 -- ---- log numbers of a highest and a lowest
 
-module _ {P : Type 0} (number : P → ℕ) where
-  pair-fit : (a b : P) → number a ≤ largest → number b ≤ largest → allFit (numbersOf number (between a b)) ≡ true
-  unfolding allFit numbersOf
-  pair-fit a b p q = holds (yes≤ p) (holds (yes≤ q) refl)
-
-  pub fit-pair : (a b : P) → allFit (numbersOf number (between a b)) ≡ true →
-      (number a ≤ largest) × (number b ≤ largest)
-  unfolding allFit numbersOf
-  fit-pair a b e = (is≤ (both e .0), is≤ (both (both e .1) .0))
-
-  higher-fits : (below : P → P → Bool) (a b : P) → number a ≤ largest → number b ≤ largest →
-      number (higher below a b) ≤ largest
-  unfolding higher pick
-  higher-fits below a b p q = by-test (below a b) (λ e. rw e q) (λ e. rw e p)
-
-  pub joined-fit : (below : P → P → Bool) (r s : Range P) → allFit (numbersOf number r) ≡ true →
-      allFit (numbersOf number s) ≡ true → allFit (numbersOf number (joined below r s)) ≡ true
-  unfolding joined
-  joined-fit below none s e f = f
-  joined-fit below (between a b) none e f = e
-  joined-fit below (between a b) (between a′ b′) e f =
-      let p = fit-pair a b e in
-      let q = fit-pair a′ b′ f in
-      pair-fit _ _ (higher-fits below a a′ (p .0) (q .0)) (higher-fits (turned below) b b′ (p .1) (q .1))
-
-  -- with k logs more before them
-  module _ (k : ℕ) (later : P → P) (is : (p : P) → number (later p) ≡ k + number p) where
-    pub earlier-fit : (r : Range P) → allFit (numbersOf number (mapped later r)) ≡ true →
-        allFit (numbersOf number r) ≡ true
-    unfolding mapped
-    earlier-fit none e = e
-    earlier-fit (between a b) e =
-        let p = fit-pair (later a) (later b) e in
-        pair-fit a b (omega (arith, is a, p .0)) (omega (arith, is b, p .1))
-
-    pub own-fit : (n : ℕ) → k + n ≤ largest → (r : Range P) → OfBoth (λ p. Numbers n (number p)) r →
-        allFit (numbersOf number (mapped later r)) ≡ true
-    unfolding mapped allFit numbersOf
-    own-fit n h none x = refl
-    own-fit n h (between a b) x =
-        pair-fit (later a) (later b) (omega (arith, is a, x .0 .1)) (omega (arith, is b, x .1 .1))
+module _ {P : Type 0} (number : P → ℕ) (k : ℕ) (later : P → P) (is : (p : P) → number (later p) ≡ k + number p) where
+  pub own-fit : (n : ℕ) → k + n ≤ largest → (r : Range P) → OfBoth (λ p. Numbers n (number p)) r →
+      allFit (numbersOf number (mapped later r)) ≡ true
+  unfolding mapped allFit numbersOf
+  own-fit n h none x = refl
+  own-fit n h (between a b) x =
+      pair-fit number (later a) (later b) (omega (arith, is a, x .0 .1)) (omega (arith, is b, x .1 .1))

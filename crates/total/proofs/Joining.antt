@@ -8,13 +8,15 @@ use Rattle.report.specs.Counts.{from, byNumber, added}
 use Rattle.report.specs.Figures.{Figures, empty, both}
 use Rattle.report.specs.declared.{pressure.PressurePeak.PressurePeak, gps.GpsPeak.GpsPeak}
 use Rattle.report.proofs.Figures.{both-assoc, both-empty, empty-both}
-use Rattle.total.specs.Total.{Totals, pressureSpot, gpsSpot, lowerPressure, lowerGps, Logs, totalOf, noLogs}
-use Rattle.total.specs.Total.{mapped, inLog, oneLog, allFit, totalFits, addFits, laterPressure, laterGps, laterBy}
-use Rattle.total.specs.Total.{joinOf, numbersOf, logNumbers, joinFits, Joining, given, refused, joinRes}
+use Rattle.span.specs.Span.{pressureSpot, gpsSpot, lowerPressure, lowerGps, mapped, allFit, laterPressure, laterGps}
+use Rattle.span.specs.Span.{numbersOf}
+use Rattle.span.specs.declared.{pressure.PressureSpot.PressureSpot, gps.GpsSpot.GpsSpot}
+use Rattle.span.proofs.Fits.{joined-fit, earlier-fit}
+use Rattle.total.specs.Total.{Totals, Logs, totalOf, noLogs, inLog, oneLog, totalFits, addFits, laterBy, joinOf}
+use Rattle.total.specs.Total.{logNumbers, joinFits, Joining, given, refused, joinRes}
 use Rattle.total.specs.Joins.{Fitting, andThen, leftFirst, rightFirst, apart, apartSpot, apartA, apartB, apartC}
 use Rattle.total.specs.Laws.{OfBoth, Sound}
-use Rattle.total.specs.declared.{pressure.PressureSpot.PressureSpot, gps.GpsSpot.GpsSpot}
-use Rattle.total.proofs.Fits.{fits-at, append-fit, first-fit, second-fit, joined-fit, earlier-fit, own-fit}
+use Rattle.total.proofs.Fits.{fits-at, append-fit, first-fit, second-fit, own-fit}
 use Rattle.total.proofs.Totals.{pressure-order, gps-order, joined-mapped, mapped-mapped, mapped-same}
 use Rattle.total.proofs.Totals.{total-append, add-joins, total-agrees}
 

@@ -15,11 +15,11 @@ use Rattle.report.specs.declared.{pressure.PressurePeak.PressurePeak, gps.GpsPe
 use Rattle.report.proofs.Ranges.{range-append, ordered-range, every-append, every-at}
 use Rattle.report.proofs.Counts.{added-from}
 use Rattle.report.proofs.Figures.{heights-order, times-order}
-use Rattle.total.specs.Total.{Totals, pressureSpot, gpsSpot, lowerPressure, lowerGps, inOrder, Logs}
-use Rattle.total.specs.Total.{pressureShown, gpsShown, timeShown, totalOf, noLogs, mapped, inLog, oneLog, addOf}
-use Rattle.total.specs.Total.{laterPressure, laterGps, laterBy, joinOf}
+use Rattle.span.specs.Span.{pressureSpot, gpsSpot, lowerPressure, lowerGps, mapped, laterPressure, laterGps}
+use Rattle.span.specs.declared.{pressure.PressureSpot.PressureSpot, gps.GpsSpot.GpsSpot}
+use Rattle.total.specs.Total.{Totals, inOrder, Logs, pressureShown, gpsShown, timeShown, totalOf, noLogs, inLog}
+use Rattle.total.specs.Total.{oneLog, addOf, laterBy, joinOf}
 use Rattle.total.specs.Laws.{OfBoth, Numbers, Sound, TotalAgrees}
-use Rattle.total.specs.declared.{pressure.PressureSpot.PressureSpot, gps.GpsSpot.GpsSpot}
 
 -- ---- orders
 

@@ -2,8 +2,9 @@
 use Rattle.text.specs.Prelude.{ℕ, _-_, _≡_, true, length, pos, largest}
 use Rattle.report.specs.Range.{Range, none, between}
 use Rattle.report.specs.Counts.{numbers, byNumber}
-use Rattle.total.specs.Total.{Totals, totalFits, allFit, logNumbers, Joining, given, refused, joinRes}
-use Rattle.total.specs.declared.pressure.PressureSpot.{PressureSpot}
+use Rattle.span.specs.Span.{allFit}
+use Rattle.span.specs.declared.pressure.PressureSpot.{PressureSpot}
+use Rattle.total.specs.Total.{Totals, totalFits, logNumbers, Joining, given, refused, joinRes}
 
 -- A total fits: its counts and its log numbers fit 64 bits, and it has a count for each answer.
 pub record Fitting (t : Totals) : Type 0 where

@@ -6,8 +6,8 @@ use Rattle.log.specs.Log.{LineRead}
 use Rattle.report.specs.Range.{Range, none, between, IsRange}
 use Rattle.report.specs.Figures.{earlier}
 use Rattle.report.specs.Report.{reportOf}
-use Rattle.total.specs.Total.{Totals, lowerPressure, lowerGps, inOrder, Logs, pressureShown, gpsShown, timeShown}
-use Rattle.total.specs.Total.{totalOf, noLogs, addOf}
+use Rattle.span.specs.Span.{lowerPressure, lowerGps}
+use Rattle.total.specs.Total.{Totals, inOrder, Logs, pressureShown, gpsShown, timeShown, totalOf, noLogs, addOf}
 
 -- X holds of the highest and of the lowest, where there are any.
 abbrev pub OfBoth : {P : Type 0} → (P → Type 0) → Range P → Type 0

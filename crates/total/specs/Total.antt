@@ -1,39 +1,21 @@
 -- The total of some logs: each figure by itself over the readings of all of them in order, and a log at a time.
-use Rattle.text.specs.Prelude.{ℕ, _+_, Bool, true, List, [], _∷_, _++_, map, length, Res, pick, _≤?_, _∧?_, largest}
-use lib.Signed.{ltZ}
+use Rattle.text.specs.Prelude.{ℕ, _+_, Bool, List, [], _∷_, _++_, map, length, Res, pick, _∧?_}
 use Rattle.records.specs.declared.Record.{Record}
 use Rattle.log.specs.Log.{LineRead}
-use Rattle.report.specs.Range.{Range, none, between, rangeOf}
+use Rattle.report.specs.Range.{rangeOf}
 use Rattle.report.specs.Counts.{byNumber, summed, added}
 use Rattle.report.specs.Figures.{Figures, earlier, empty, both}
 use Rattle.report.specs.Report.{answeredWith, fixesOf, shown, pressureAt, gpsAt, timeAt, timesIn}
 use Rattle.report.specs.declared.{pressure.PressurePeak.PressurePeak, gps.GpsPeak.GpsPeak}
-use Rattle.total.specs.declared.{pressure.PressureSpot.PressureSpot, pressure.PressureSpan.PressureSpan}
-use Rattle.total.specs.declared.{gps.GpsSpot.GpsSpot, gps.GpsSpan.GpsSpan}
+use Rattle.span.specs.Span.{pressureSpot, gpsSpot, lowerPressure, lowerGps, mapped, laterPressure, laterGps, allFit}
+use Rattle.span.specs.Span.{numbersOf, pressureOver, gpsOver}
+use Rattle.span.specs.declared.{pressure.PressureSpot.PressureSpot, gps.GpsSpot.GpsSpot}
 use Rattle.total.specs.declared.{Total.Total, Added.Added, Sums.Sums, Verdict.Verdict, Joined.Joined}
 
 -- How many logs, and the figures over all of them.
 pub record Totals : Type 0 where
   pub logs : ℕ
   pub figures : Figures PressureSpot GpsSpot
-
--- ---- heights with their log
-
--- A pressure height of the log n: its place is log number and byte offset.
-unfoldable pub pressureSpot : ℕ → PressurePeak → PressureSpot
-pressureSpot n p = record { log = n; place = p .place; height = p .height }
-
--- A GPS height of the log n: its place is log number and byte offset.
-unfoldable pub gpsSpot : ℕ → GpsPeak → GpsSpot
-gpsSpot n p = record { log = n; place = p .place; height = p .height }
-
--- The first pressure height is the lower, wherever the two were seen.
-unfoldable pub lowerPressure : PressureSpot → PressureSpot → Bool
-lowerPressure a b = ltZ (a .height .0) (b .height .0)
-
--- The first GPS height is the lower, wherever the two were seen.
-unfoldable pub lowerGps : GpsSpot → GpsSpot → Bool
-lowerGps a b = ltZ (a .height .0) (b .height .0)
 
 -- ---- some logs
 
@@ -79,11 +61,6 @@ module _ {T : Type 0} where
 unfoldable pub noLogs : Totals
 noLogs = record { logs = 0; figures = empty }
 
--- The same range of other things.
-unfoldable pub mapped : {P Q : Type 0} → (P → Q) → Range P → Range Q
-mapped f none = none
-mapped f (between high low) = between (f high) (f low)
-
 -- A log's report, its heights at places of the log n.
 unfoldable pub inLog : ℕ → Figures PressurePeak GpsPeak → Figures PressureSpot GpsSpot
 inLog n f = record {
@@ -106,11 +83,6 @@ addOf t f = record {
   figures = both lowerPressure lowerGps (t .figures) (inLog (t .logs + 1) f);
 }
 
--- Each of some numbers fits 64 bits.
-unfoldable pub allFit : List ℕ → Bool
-allFit [] = true
-allFit (n ∷ ns) = (n ≤? largest) ∧? allFit ns
-
 -- Every count of a total fits 64 bits.
 unfoldable pub totalFits : Totals → Bool
 totalFits t = allFit (t .logs ∷ t .figures .lines ∷ t .figures .fixes ∷ t .figures .answers)
@@ -130,14 +102,6 @@ addRes t f = record { total = pick (addFits t f) (addOf t f) t; fits = addFits t
 
 -- ---- two totals
 
--- A pressure height with k logs more before its own.
-unfoldable pub laterPressure : ℕ → PressureSpot → PressureSpot
-laterPressure k s = record { log = k + s .log; place = s .place; height = s .height }
-
--- A GPS height with k logs more before its own.
-unfoldable pub laterGps : ℕ → GpsSpot → GpsSpot
-laterGps k s = record { log = k + s .log; place = s .place; height = s .height }
-
 -- The same figures, their log numbers shifted by k.
 unfoldable pub laterBy : ℕ → Figures PressureSpot GpsSpot → Figures PressureSpot GpsSpot
 laterBy k f = record {
@@ -155,11 +119,6 @@ joinOf a b = record {
   logs = a .logs + b .logs;
   figures = both lowerPressure lowerGps (a .figures) (laterBy (a .logs) (b .figures));
 }
-
--- The log numbers of a highest and a lowest.
-unfoldable pub numbersOf : {P : Type 0} → (P → ℕ) → Range P → List ℕ
-numbersOf number none = []
-numbersOf number (between high low) = number high ∷ number low ∷ []
 
 -- The log numbers that figures name.
 unfoldable pub logNumbers : Figures PressureSpot GpsSpot → List ℕ
@@ -184,14 +143,6 @@ sumsRes ns ms =
     let fit = allFit (added ns ms) in record { counts = pick fit (added ns ms) ns; fit = fit }
 
 -- ---- what the code holds
-
-abbrev pub pressureOver : PressureSpan → Range PressureSpot
-pressureOver PressureSpan.Missing = none
-pressureOver (PressureSpan.Between high low) = between high low
-
-abbrev pub gpsOver : GpsSpan → Range GpsSpot
-gpsOver GpsSpan.Missing = none
-gpsOver (GpsSpan.Between high low) = between high low
 
 abbrev pub totalIn : Total → Totals
 totalIn t = record {

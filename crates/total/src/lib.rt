@@ -1,15 +1,12 @@
 // The total of some logs: the figures of a report over all of them in order.
-pub mod gps;
-pub mod pressure;
-
 ghost use mathlib.Core.Path.{_≡_};
 ghost use Rattle.report.specs.Report.{figuresIn};
-ghost use Rattle.total.specs.Total.{addRes, addedIn, beside, joinRes, joinedIn, noLogs, oneLog, refused, sumsRes};
-ghost use Rattle.total.specs.Total.{totalIn, verdictNumber};
-use crate::gps::GpsSpan;
-use crate::pressure::PressureSpan;
+ghost use Rattle.total.specs.Total.{addRes, addedIn, beside, joinRes, joinedIn, noLogs, oneLog, refused};
+ghost use Rattle.total.specs.Total.{sumsRes, totalIn, verdictNumber};
 use report::Report;
 use report::times::TimeRange;
+use span::gps::GpsSpan;
+use span::pressure::PressureSpan;
 
 pub struct Total {
     pub answers: [u64; 13],

@@ -3,9 +3,12 @@ use Rattle.text.proofs.Prelude.{needs, arith, refl, ap, _∙_, so-true, so-fals
 use Rattle.report.specs.Range.{Range, joined}
 use Rattle.report.specs.Counts.{added}
 use Rattle.report.specs.Figures as figures
-use Rattle.total.specs.Total.{lowerPressure, lowerGps, mapped, laterPressure, laterGps, allFit, numbersOf}
-use Rattle.total.specs.Total.{laterBy, joinOf, joinFits, pressureOver, gpsOver, totalIn}
-use Rattle.total.specs.declared.{pressure.PressureSpot.PressureSpot, gps.GpsSpot.GpsSpot, Total.Total}
+use Rattle.span.specs.Span.{lowerPressure, lowerGps, mapped, laterPressure, laterGps, allFit, numbersOf, pressureOver}
+use Rattle.span.specs.Span.{gpsOver}
+use Rattle.span.specs.declared.{pressure.PressureSpot.PressureSpot, gps.GpsSpot.GpsSpot}
+use Rattle.span.proofs.Fits.{shifted-fit}
+use Rattle.total.specs.Total.{laterBy, joinOf, joinFits, totalIn}
+use Rattle.total.specs.declared.Total.{Total}
 use Rattle.total.proofs.Adding.{fit-is, counts-are, count-over, answers-over, pressure-over, gps-over, all-in}
 use Rattle.total.proofs.Adding.{too-large, joins}
 use Rattle.total.proofs.Total.join.Statement.{statement}
@@ -52,12 +55,14 @@ fits c =
 
 given : tie.Need-returns-7
 given c =
-    let gps = c .before in
-    let pressure = gps .before .before in
+    let gpses = c .before in
+    let pressures = gpses .before .before in
     let tested : tie.Else6 = search needs in
     joins _ _ (fits tested) (answers (tested .before .before .before .before))
-    (pressure .join .ensures ∙ ap (joined lowerPressure _) (pressure .before .later .ensures))
-    (gps .join2 .ensures ∙ ap (joined lowerGps _) (gps .before .later2 .ensures))
+    (pressures .join .ensures
+    ∙ ap (joined lowerPressure _) (pressures .before .later .ensures ∙ shifted-fit _ _ _ (pressure (search needs))))
+    (gpses .join2 .ensures
+    ∙ ap (joined lowerGps _) (gpses .before .later2 .ensures ∙ shifted-fit _ _ _ (gps tested)))
     (c .join3 .ensures)
 
 pub join-spec : {M : Type 1} → statement M
@@ -81,8 +86,5 @@ join-spec =
     (λ c. c .too-large6 .ensures ∙ too-large _ _ (gps-over _ _
     (so-false (c .before .before .fits3 .ensures) (c .before .if6 .taken))))
     (search needs) (search needs) (search needs)
-    (λ c κs. pressure (search needs))
-    (search needs)
-    (λ c κs. gps (search needs))
-    (search needs) (search needs)
+    (search needs) (search needs) (search needs) (search needs) (search needs)
     given)
