@@ -34,8 +34,8 @@ one-line-fed t x = omega arith
 
 -- Where a piece is ready no place and no count passes 64 bits over its bytes.
 pub within-64-bits : (c : Carried) (n : ℕ) → isReady c n ≡ true →
-    (c .walk .at .place + n ≤ largest)
-    × (c .walk .at .number + n ≤ largest)
+    (c .at .place + n ≤ largest)
+    × (c .at .number + n ≤ largest)
     × (c .trailer .lines + n ≤ largest)
     × (c .trailer .refused + n ≤ largest)
 unfolding isReady
@@ -46,7 +46,7 @@ within-64-bits c n e =
     (is≤ (k .0), is≤ (l .0), is≤ (m .0), is≤ (m .1))
 
 -- Where none does the piece is ready.
-pub so-ready : (c : Carried) (n : ℕ) → c .walk .at .place + n ≤ largest → c .walk .at .number + n ≤ largest →
+pub so-ready : (c : Carried) (n : ℕ) → c .at .place + n ≤ largest → c .at .number + n ≤ largest →
     c .trailer .lines + n ≤ largest → c .trailer .refused + n ≤ largest → isReady c n ≡ true
 unfolding isReady
 so-ready c n place number lines refused = and (yes≤ place) (and (yes≤ number) (and (yes≤ lines) (yes≤ refused)))
@@ -55,7 +55,7 @@ so-ready c n place number lines refused = and (yes≤ place) (and (yes≤ number
 
 -- The place so many bytes behind c, and what is carried there.
 abbrev placed : Carried → ℕ → ℕ
-placed c at = c .walk .at .place + at
+placed c at = c .at .place + at
 
 abbrev behind : Carried → Tables → ℕ → Trailer → ℕ → fold.Carried Tables Trailer
 behind c h n t at = record { number = n; place = placed c at; held = h; made = t }
@@ -72,9 +72,9 @@ module _ (p : Product) (names : List ℕ) (c : Carried) (s b₀ : List ℕ) wher
 module _ {p : Product} {names : List ℕ} {c : Carried} {s b₀ : List ℕ} where
   -- Before the first line.
   pub at-start : isReady c (length s) ≡ true → length b₀ < largest →
-      Feeding p names c s b₀ b₀ (c .walk .held) (c .walk .at .number) (c .trailer) 0 0
+      Feeding p names c s b₀ b₀ (c .held) (c .at .number) (c .trailer) 0 0
   at-start e short =
-      let z : c .walk .at .place + 0 ≡ c .walk .at .place = omega arith in
+      let z : c .at .place + 0 ≡ c .at .place = omega arith in
       record {
         reached = rw z reached.at-start;
         left = rw z left-all;

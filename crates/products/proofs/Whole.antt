@@ -7,7 +7,6 @@ use Rattle.log.proofs.Pieces.{in-pieces as pieces, place-is}
 use Rattle.log.proofs.Reached as reached
 use Rattle.held.specs.declared.tables.Tables.{Tables}
 use Rattle.cursor.specs.Cursor.{start}
-use Rattle.walk.specs.Walk as walk
 use Rattle.walk.specs.Readings.{reader}
 use Rattle.trailer_text.specs.Trailer.{nothing, countStep}
 use Rattle.trailer_text.specs.declared.Trailer.{Trailer}
@@ -48,7 +47,7 @@ module _ {p : Product} {names : List ℕ} where
   -- So they make the text of the whole log.
   whole-is : {c : Carried} {ps : List (List ℕ)} {t : List ℕ} →
       Rows p names atFirst ps c t → Whole ps → t ++ closing p (c .trailer) ≡ productText p names (joined ps)
-  unfolding productText atFirst nothing walk.fresh start
+  unfolding productText atFirst nothing start
   whole-is {ps} rows h =
       let law = pieces reader countStep in
       let all = all-fed rows in
@@ -64,7 +63,7 @@ module _ {p : Product} {names : List ℕ} where
 
 -- A log of fewer than 2 ^ 64 bytes is ready at first.
 first-ready : (n : ℕ) → n ≤ largest → isReady atFirst n ≡ true
-unfolding atFirst nothing walk.fresh start
+unfolding atFirst nothing start
 first-ready n h = so-ready atFirst n (omega arith) (omega arith) (omega arith) (omega arith)
 
 -- What is left of it stays ready.

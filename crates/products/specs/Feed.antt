@@ -2,8 +2,9 @@
 use Rattle.text.specs.Prelude.{ℕ, _+_, _≡_, Bool, true, false, List, length, _≤?_, _∧?_, largest}
 use Rattle.log.specs.Fold as fold
 use Rattle.log.specs.Taking.{Took}
+use Rattle.held.specs.Tables.{noTables}
 use Rattle.held.specs.declared.tables.Tables.{Tables}
-use Rattle.walk.specs.Walk as walk
+use Rattle.cursor.specs.Cursor.{start}
 use Rattle.walk.specs.Readings.{reader}
 use Rattle.trailer_text.specs.Trailer.{nothing, countStep}
 use Rattle.trailer_text.specs.declared.Trailer.{Trailer}
@@ -12,17 +13,17 @@ use Rattle.products.specs.declared.{Product.Product, Carried.Carried, Fe
 
 -- Before the first piece.
 unfoldable pub atFirst : Carried
-atFirst = record { walk = walk.fresh; trailer = nothing }
+atFirst = record { held = noTables; at = start; trailer = nothing }
 
 -- The same as every fold carries it.
 abbrev pub view : Carried → fold.Carried Tables Trailer
-view c = record { number = c .walk .at .number; place = c .walk .at .place; held = c .walk .held; made = c .trailer }
+view c = record { number = c .at .number; place = c .at .place; held = c .held; made = c .trailer }
 
 -- No place and no count passes 64 bits over n bytes more.
 unfoldable pub isReady : Carried → ℕ → Bool
 isReady c n =
-    (c .walk .at .place + n ≤? largest)
-    ∧? (c .walk .at .number + n ≤? largest)
+    (c .at .place + n ≤? largest)
+    ∧? (c .at .number + n ≤? largest)
     ∧? (c .trailer .lines + n ≤? largest)
     ∧? (c .trailer .refused + n ≤? largest)
 

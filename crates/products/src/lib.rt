@@ -11,7 +11,6 @@ use cursor::Cursor;
 use held::tables::Tables;
 use records::Reading;
 use trailer_text::Trailer;
-use walk::Walk;
 use walk::turn::read_at;
 
 // What is asked of a log.
@@ -20,9 +19,10 @@ pub enum Product {
     Fields,
 }
 
-// What goes from piece to piece: where the walk stands, and the figures over the lines before.
+// What goes from piece to piece: the tables in force, the place of the next line, and the figures over the lines before.
 pub struct Carried {
-    pub walk: Walk,
+    pub held: Tables,
+    pub at: Cursor,
     pub trailer: Trailer,
 }
 
@@ -61,9 +61,9 @@ fn put_ready(product: Product, c: Carried, lines: &[u8], names: &[u8], buf: &mut
     ensures { λ r.
         ⌜ FedOf true product (now (names .entry)) c (now (lines .entry)) (now (buf .entry)) (now (buf .exit)) r ⌝ }
 {
-    let base = c.walk.at.place;
-    let mut held = c.walk.held;
-    let mut number = c.walk.at.number;
+    let base = c.at.place;
+    let mut held = c.held;
+    let mut number = c.at.number;
     let mut trailer = c.trailer;
     let mut taken = 0;
     let mut end = 0;
@@ -79,9 +79,8 @@ fn put_ready(product: Product, c: Carried, lines: &[u8], names: &[u8], buf: &mut
                 place: base + taken,
                 number,
             };
-            let walk = Walk { held, at };
             return Fed {
-                carried: Carried { walk, trailer },
+                carried: Carried { held, at, trailer },
                 taken,
                 end,
             };
@@ -96,9 +95,8 @@ fn put_ready(product: Product, c: Carried, lines: &[u8], names: &[u8], buf: &mut
         place: base + taken,
         number,
     };
-    let walk = Walk { held, at };
     Fed {
-        carried: Carried { walk, trailer },
+        carried: Carried { held, at, trailer },
         taken,
         end,
     }
@@ -108,10 +106,10 @@ fn put_ready(product: Product, c: Carried, lines: &[u8], names: &[u8], buf: &mut
 fn is_ready(c: Carried, n: usize) -> bool
     ensures { λ r. ⌜ r ≡ isReady c n ⌝ }
 {
-    if 0xffff_ffff_ffff_ffff - c.walk.at.place < n {
+    if 0xffff_ffff_ffff_ffff - c.at.place < n {
         return false;
     }
-    if 0xffff_ffff_ffff_ffff - c.walk.at.number < n as u64 {
+    if 0xffff_ffff_ffff_ffff - c.at.number < n as u64 {
         return false;
     }
     if 0xffff_ffff_ffff_ffff - c.trailer.lines < n as u64 {
@@ -124,12 +122,13 @@ fn is_ready(c: Carried, n: usize) -> bool
 pub fn new() -> Carried
     ensures { λ r. ⌜ r ≡ atFirst ⌝ }
 {
-    let walk = Walk::new();
+    let held = Tables::new();
+    let at = Cursor::new();
     let trailer = Trailer::new();
-    Carried { walk, trailer }
+    Carried { held, at, trailer }
 }
 
-// The lines that come next: `lines` are the bytes of the log from where the walk stands, or as many of them as are at
+// The lines that come next: `lines` are the bytes of the log from the place on, or as many of them as are at
 // hand, and then whole lines. The names asked for are three bytes each; where there are none, those of the table in
 // force.
 pub fn put_lines(asked: Product, c: Carried, lines: &[u8], names: &[u8], buf: &mut [u8]) -> Fed

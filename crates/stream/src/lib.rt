@@ -60,7 +60,7 @@ fn write_lines(
             return Went {
                 carried,
                 taken: from,
-                outcome: Outcome::NoRoom(carried.walk.at.number),
+                outcome: Outcome::NoRoom(carried.at.number),
             };
         }
         let outcome = write_text(to, &mut out[0..end]);
@@ -85,7 +85,7 @@ fn write_lines(
 fn write_closing(product: Product, c: Carried, to: i32, out: &mut [u8]) -> Outcome {
     let end = put_closing(out, 0, product, c);
     if out.len() < end {
-        return Outcome::NoRoom(c.walk.at.number);
+        return Outcome::NoRoom(c.at.number);
     }
     write_text(to, &mut out[0..end])
 }
@@ -128,7 +128,7 @@ fn drain(
 {
     let whole = piece_end(win, false);
     if whole == 0 {
-        return stop(c, Outcome::LongLine(c.walk.at.number));
+        return stop(c, Outcome::LongLine(c.at.number));
     }
     let went = write_lines(product, c, &win[0..whole], names, to, out);
     let carried = went.carried;

@@ -51,7 +51,7 @@ fn run_on(product: Product, fd: i32, file: &[u8], names: &[u8], told: i32) {
     let mut out = text_buffer();
     let ended = run(product, fd, &mut win, names, 1, &mut out);
     let outcome = ended.outcome;
-    say_short(outcome, ended.carried.walk.at.number);
+    say_short(outcome, ended.carried.at.number);
     tell(told, file, outcome);
 }
 

@@ -1,7 +1,6 @@
 use Rattle.text.specs.Prelude.{_+_, _-_, _≤_, _<_, length, largest}
 use Rattle.text.proofs.Prelude.{needs, arith, _∙_}
 use Rattle.put.proofs.Writing.{wrote-length}
-use Rattle.walk.specs.declared.Walk.{Walk}
 use Rattle.walk.proofs.Turns.{less-left}
 use Rattle.products.specs.declared.Carried.{Carried}
 use Rattle.products.proofs.Feeding.{Feeding, at-start, at-end, place-small, counts-small, line, full}
@@ -10,8 +9,8 @@ use Rattle.products.proofs.put_ready.Tie as tie
 
 abbrev Inv-loop : tie.InvT-loop
 Inv-loop product lines names buf₀ base held₀ number₀ trailer₀ taken₀ end₀ buf held number trailer taken end =
-    let walk : Walk = record { held = held₀; at = record { place = base; number = number₀ } } in
-    let c : Carried = record { walk = walk; trailer = trailer₀ } in
+    let c : Carried =
+    record { held = held₀; at = record { place = base; number = number₀ }; trailer = trailer₀ } in
     Feeding product names c lines buf₀ buf held number trailer taken end
 
 abbrev μ-loop : tie.MeasureT-loop
@@ -57,7 +56,7 @@ loop-again c =
 
 -- no place passes 64 bits
 place-fits : (c : tie.At-loop Inv-loop μ-loop) →
-    c .before .before .before .before .before .before .args .c .walk .at .place + c .loop .taken ≤ largest
+    c .before .before .before .before .before .before .args .c .at .place + c .loop .taken ≤ largest
 place-fits c = place-small (c .loop .inv)
 
 -- no number of a line does
