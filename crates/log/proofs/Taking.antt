@@ -1,18 +1,20 @@
 -- The loop over the lines of a piece, which takes them into lent bytes: what is left to take, from here, makes up the
 -- whole.
-use Rattle.text.specs.Prelude.{ℕ, _+_, _-_, _≤_, _<_, _≡_, List, [], length, drop, pick, _≤?_}
+use Rattle.text.specs.Prelude.{ℕ, suc, _+_, _-_, _≤_, _<_, _≡_, List, [], _∷_, _++_, length, take, drop, set, pick}
+use Rattle.text.specs.Prelude.{_≤?_}
 use Rattle.text.proofs.Prelude.{arith, refl, sym, ap, _∙_, length-drop, drop-of-length-le, drop-drop, length-take-le}
-use Rattle.text.proofs.Prelude.{first, second, yes≤, no≤}
+use Rattle.text.proofs.Prelude.{sets, first, second, yes≤, no≤}
 use Rattle.part.specs.Part.{bytesOf, partBytes}
 use Rattle.log.specs.Line.{width, lineText, cutAt}
 use Rattle.log.specs.Log.{chunks, Reader, LineRead}
-use Rattle.log.specs.Fold.{Carried, readAt, pastLine}
-use Rattle.log.specs.Taking.{takenIn, nextText}
+use Rattle.log.specs.Fold.{texts, Carried, readAt, readOn, pastLine}
+use Rattle.log.specs.Taking.{takenIn, nextText, Took}
 use Rattle.log.specs.declared.Cut.{Cut}
 use Rattle.log.proofs.Ends.{width-le, lineText-first}
 use Rattle.log.proofs.Chunks.{chunks-some, chunks-none}
 use Rattle.log.proofs.Cuts.{cut-viewed}
-use Rattle.log.proofs.Reached.{Reached}
+use Rattle.log.proofs.Pieces.{no-text}
+use Rattle.log.proofs.Reached.{Reached, at-start}
 
 module _ {A H T : Type 0} (R : Reader A H) (step : T → LineRead A H → T) (f : LineRead A H → List ℕ) (c₀ : Carried H T)
     (s : List ℕ) (room : ℕ) where
@@ -91,3 +93,38 @@ module _ {A H T : Type 0} (R : Reader A H) (step : T → LineRead A H → T) (f 
       nextText R step f c₀ s at ≡ f (readAt R c (bytesOf (cutAt at s .line) s))
   unfolding nextText cutAt bytesOf lineText
   next-is r i = rw (r .made) (sym (second _ (no≤ i) refl))
+
+-- ---- what a caller goes on with
+
+-- What is written behind the first byte leaves it.
+sets-later : (x : ℕ) (b : List ℕ) (i : ℕ) (t : List ℕ) → sets (x ∷ b) (suc i) t ≡ x ∷ sets b i t
+sets-later x b i [] = refl
+sets-later x b i (y ∷ t) = sets-later x (set b i y) (suc i) t
+
+-- What was written from the start on stands there, whatever was written behind it.
+front-stands : (b t u : List ℕ) → length t ≤ length b → take (length t) (sets b 0 (t ++ u)) ≡ t
+front-stands b [] u h = refl
+front-stands [] (x ∷ t) u h = let no : ⊥ = omega arith in absurd no
+front-stands (y ∷ b) (x ∷ t) u h = rw (sets-later x b 0 (t ++ u), front-stands b t u (omega arith))
+
+module _ {A H T : Type 0} (R : Reader A H) (step : T → LineRead A H → T) (f : LineRead A H → List ℕ) (c : Carried H T)
+    (s b b′ : List ℕ) (c′ : Carried H T) (n end : ℕ) where
+  -- What is carried on is what the bytes that were taken make, and what was written is their text, which has room.
+  abbrev pub Called : Type 0
+  Called =
+      Reached R step c s n c′ × (take end b′ ≡ texts f (readOn R c (take n s))) × (end ≤ length b)
+
+module _ {A H T : Type 0} (R : Reader A H) (step : T → LineRead A H → T) (f : LineRead A H → List ℕ) (c : Carried H T)
+    (s b b′ : List ℕ) where
+  -- So it is where lines were taken,
+  pub took-called : {c′ : Carried H T} {n end : ℕ} → Took R step f c s b b′ c′ n end →
+      Called R step f c s b b′ c′ n end
+  took-called k = (
+    record { inside = k .inside; whole = k .whole; made = k .carried },
+    rw (k .content, k .text-end) (front-stands b _ _ (omega (arith, k .text-end, k .fits))),
+    k .fits,
+  )
+
+  -- and where none were.
+  pub none-called : Called R step f c s b b′ c 0 0
+  none-called = (at-start, sym (no-text R f c), omega arith)

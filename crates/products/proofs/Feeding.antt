@@ -1,5 +1,5 @@
 -- The loop that takes the lines of a piece, as far as there is room for their text.
-use Rattle.text.specs.Prelude.{ℕ, suc, _+_, _≤_, _<_, _≡_, Bool, true, false, List, [], _∷_, _++_, length, take, set}
+use Rattle.text.specs.Prelude.{ℕ, _+_, _≤_, _<_, _≡_, Bool, true, false, List, _++_, length, take}
 use Rattle.text.specs.Prelude.{largest}
 use Rattle.text.proofs.Prelude.{arith, refl, sym, ap, _∙_, append-nil, sets, yes≤, is≤, both, and}
 use Rattle.part.specs.Part.{partBytes, bytesOf}
@@ -14,7 +14,8 @@ use Rattle.log.specs.Taking.{takenIn, nextText, Took}
 use Rattle.log.proofs.Pieces.{no-text}
 use Rattle.log.proofs.Reached as reached
 use Rattle.log.proofs.Reached.{Reached}
-use Rattle.log.proofs.Taking.{Left, left-all, left-none, left-full, left-line, next-none, next-is}
+use Rattle.log.proofs.Taking.{Left, left-all, left-none, left-full, left-line, next-none, next-is, Called}
+use Rattle.log.proofs.Taking.{took-called, none-called}
 use Rattle.held.specs.declared.tables.Tables.{Tables}
 use Rattle.walk.specs.Turn.{gotAt}
 use Rattle.walk.specs.Readings.{Line-read, reader}
@@ -172,33 +173,14 @@ module _ {p : Product} {names : List ℕ} {c : Carried} {s b₀ : List ℕ} wher
 
 -- ---- what a caller goes on with
 
--- What is written behind the first byte leaves it.
-sets-later : (x : ℕ) (b : List ℕ) (i : ℕ) (t : List ℕ) → sets (x ∷ b) (suc i) t ≡ x ∷ sets b i t
-sets-later x b i [] = refl
-sets-later x b i (y ∷ t) = sets-later x (set b i y) (suc i) t
-
--- What was written from the start on stands there, whatever was written behind it.
-front-stands : (b t u : List ℕ) → length t ≤ length b → take (length t) (sets b 0 (t ++ u)) ≡ t
-front-stands b [] u h = refl
-front-stands [] (x ∷ t) u h = let no : ⊥ = omega arith in absurd no
-front-stands (y ∷ b) (x ∷ t) u h = rw (sets-later x b 0 (t ++ u), front-stands b t u (omega arith))
-
 module _ (p : Product) (names : List ℕ) (c : Carried) (s b b′ : List ℕ) (r : Fed) where
-  -- What is carried on is what the bytes that were taken make, and what was written is their text, which has room.
-  abbrev pub Called : Type 0
-  Called =
-      Reached reader countStep (view c) s (r .taken) (view (r .carried))
-      × (take (r .end) b′ ≡ texts (productLineOf p names) (readOn reader (view c) (take (r .taken) s)))
-      × (r .end ≤ length b)
+  abbrev CalledOf : Type 0
+  CalledOf = Called reader countStep (productLineOf p names) (view c) s b b′ (view (r .carried)) (r .taken) (r .end)
 
-  fed-of : (ready : Bool) → FedOf ready p names c s b b′ r → Called
-  fed-of true k = (
-    record { inside = k .inside; whole = k .whole; made = k .carried },
-    rw (k .content, k .text-end) (front-stands b _ _ (omega (arith, k .text-end, k .fits))),
-    k .fits,
-  )
-  fed-of false k = rw (k .0) (reached.at-start, sym (no-text reader (productLineOf p names) (view c)), omega arith)
+  fed-of : (ready : Bool) → FedOf ready p names c s b b′ r → CalledOf
+  fed-of true k = took-called reader countStep (productLineOf p names) (view c) s b b′ k
+  fed-of false k = rw (k .0) (none-called reader countStep (productLineOf p names) (view c) s b b′)
 
   -- That holds after every call.
-  pub called : Feeds p names c s b b′ r → Called
+  pub called : Feeds p names c s b b′ r → CalledOf
   called k = fed-of (isReady c (length s)) k
