@@ -25,7 +25,8 @@ use Rattle.h_record.proofs.Answers.{h-undone}
 use Rattle.k_record.proofs.Answers.{k-undone}
 use Rattle.l_record.proofs.Answers.{l-undone}
 use Rattle.records.proofs.Answers.{reading-undone}
-use Rattle.report.proofs.Answers.{reportMade, report-undone}
+use Rattle.report.specs.Report.{reportMade}
+use Rattle.report.proofs.Answers.{report-undone}
 use Rattle.reported.specs.Reported.{SoFar}
 use Rattle.reported.specs.declared.Sofar.{Sofar}
 use Rattle.span.proofs.Answers.{pressureMade, gpsMade, pressure-undone, gps-undone}
