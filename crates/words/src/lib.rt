@@ -5,9 +5,9 @@ ghost use lib.ListN.{length};
 use block_read::starts_with;
 use files::input::is_dash;
 use files::input::open;
-use files::outcome::Outcome;
 use files::output::write_all;
 use files::say::fail;
+use files::say::say_short;
 use files::say::tell;
 use joins::run_join;
 use names::read_names;
@@ -34,16 +34,6 @@ fn name_buffer() -> [u8; 12288]
     ensures { λ r. ⌜ 12288 ≡ length r ⌝ }
 {
     [0; 12288]
-}
-
-// Of a log that could not be read to its end what was written looks like that of a shorter one, but for this.
-fn say_short(outcome: Outcome, lines: u64) {
-    if lines == 0 {
-        return;
-    }
-    if outcome.cuts_short() {
-        write_all(1, b"! cut short\n");
-    }
 }
 
 fn run_on(product: Product, fd: i32, file: &[u8], names: &[u8], told: i32) {
