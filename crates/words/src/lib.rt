@@ -14,6 +14,7 @@ use names::read_names;
 use products::Product;
 use seasons::run_season;
 use stream::run;
+use watches::run_watch;
 
 // A line is at most this long.
 fn window() -> [u8; 1048576]
@@ -155,14 +156,18 @@ fn run_from(at: usize, told: i32)
         run_join(at + 1, told);
         return;
     }
+    if is_word(&word[0..n], b"watch") {
+        run_watch(at + 1, told);
+        return;
+    }
     write_all(
         2,
-        b"tokelivo: none of list, fields, season and join is asked for\n",
+        b"tokelivo: none of list, fields, season, join and watch is asked for\n",
     );
 }
 
-// By the program's words: `list FILE`, `fields FILE NAME..`, `season FILE..` or `join SHEET..`. In front of them may
-// stand a descriptor, as 3: where nothing went wrong, 0 is written there.
+// By the program's words: `list FILE`, `fields FILE NAME..`, `season FILE..`, `join SHEET..` or `watch FILE`. In front
+// of them may stand a descriptor, as 3: where nothing went wrong, 0 is written there.
 pub fn run_words() {
     let mut word = [0u8; 8];
     let n = os::arg(1, &mut word);
