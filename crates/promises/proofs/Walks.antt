@@ -9,16 +9,20 @@ use Rattle.log.specs.Line.{cutAt}
 use Rattle.log.specs.Log.{chunks, readFrom, readings}
 use Rattle.log.proofs.Cuts.{read-past, read-line, cut-viewed}
 use Rattle.held.specs.Tables.{tablesAfter}
-use Rattle.report.specs.Report.{reportAfter}
+use Rattle.report.specs.Report.{reportOf, figuresIn, reportAfter}
+use Rattle.report.proofs.Answers.{figures-made}
+use Rattle.report.proofs.Reports.{report-any}
 use Rattle.cursor.specs.Cursor.{start, past, nextOf}
 use Rattle.walk.specs.Walk.{fresh, readingOf, stepOf}
-use Rattle.walk.specs.Readings.{reader, readBy, walked}
+use Rattle.walk.specs.Readings.{reader, readBy, walked, afterSteps}
 use Rattle.walk.specs.declared.{Walk.Walk, Step.Step}
 use Rattle.walk.specs.declared.Taken.the-variants.{Line}
 use Rattle.walk.proofs.Laws.{viewed, step-on}
 use Rattle.walk.proofs.Steps.{Roomy, done, going, past-done, end-is-done, end-reached, roomy-fresh, roomy-on, roomy-step}
 use Rattle.walk.proofs.Reporting.{fresh-report}
 use Rattle.reader.specs.Reader.{readerAt, handedBy, handedOut}
+use Rattle.watch_text.specs.Watch.{watcher}
+use Rattle.watch_text.proofs.Laws.{rises}
 use Rattle.listing_text.specs.Listing.{listed, listingText}
 use Rattle.promises.specs.Walks.{Walks}
 
@@ -82,6 +86,14 @@ handed-walked log (suc k) w roomy =
     let none : ((w .at .place + 1 ≤? length s) ∧? (w .at .number + 1 ≤? largest)) ≡ false = fails _ e in
     rw (done s w (past-done s w p), none))
 
+-- the walk's report, over the screen's own readings
+watched-report : (log : List ℕ) → length log ≤ largest → (k : ℕ) →
+    reportOf (take k (readings watcher log)) ≡ figuresIn (afterSteps k log fresh .report)
+unfolding readings
+watched-report log h k =
+    report-any watcher reader (λ s. refl) k 0 0 _ _ (chunks log)
+    ∙ sym (ap figuresIn (fresh-report log h k) ∙ figures-made (reportOf (take k (readings reader log))))
+
 -- each statement, of every log
 pub walks : Walks
 unfolding listingText fresh start
@@ -92,6 +104,8 @@ walks = record {
   reads = λ log w e. let on = going log w e in ap (λ (t : Step). t .taken) (step-on log w (on .0) (on .1) (on .2));
   end-done = end-is-done;
   end-reached = end-reached;
+  watch-rises = λ log h k x later e.
+      rises .at-line log k x later h e .1 ∙ rw (watched-report log h k, watched-report log h (k + 1));
   reader-reads = λ log h k. handed-walked log k fresh (roomy-fresh (now log) h) ∙ fresh-reads (now log) h k;
   listing-of-steps = λ log h k enough. ap listed (sym (fresh-reads log h k ∙ take-all k (readings reader log) enough));
 }

@@ -1,6 +1,6 @@
 -- The report of readings in parts, and reading by reading.
-use Rattle.text.specs.Prelude.{ℕ, suc, _+_, _≤_, _<_, _≡_, Bool, true, false, List, [], _∷_, _++_, length, getD, Res, pick}
-use Rattle.text.specs.Prelude.{_=?_, _∨?_, largest}
+use Rattle.text.specs.Prelude.{ℕ, zero, suc, _+_, _≤_, _<_, _≡_, Bool, true, false, List, [], _∷_, _++_, length, take, getD}
+use Rattle.text.specs.Prelude.{Res, pick, _=?_, _∨?_, largest}
 use Rattle.text.proofs.Prelude.{arith, refl, sym, _∙_, no≤}
 use Rattle.records.specs.Record.{readLine, answered, answerFix}
 use Rattle.records.specs.declared.{Record.Record, MaybeFix.MaybeFix}
@@ -61,6 +61,21 @@ module _ {T : Type 0} where
         report-cons x xs,
         both-assoc pressure-order gps-order (oneOf (x .place) (x .answer)) (reportOf xs) (reportOf ys),
       )
+
+-- ---- whatever is held
+
+module _ {T U : Type 0} (R : Reader (Res Record) T) (Q : Reader (Res Record) U)
+    (same : (s : List ℕ) → R .read s ≡ Q .read s) where
+  -- readers that answer alike make one report of the first k lines
+  pub report-any : (k n p : ℕ) (t : T) (u : U) (cs : List (List ℕ)) →
+      reportOf (take k (readFrom R n p t cs)) ≡ reportOf (take k (readFrom Q n p u cs))
+  unfolding readFrom
+  report-any zero n p t u cs = report-none T ∙ sym (report-none U)
+  report-any (suc k) n p t u [] = report-none T ∙ sym (report-none U)
+  report-any (suc k) n p t u (c ∷ cs) =
+      let l = lineText c in
+      let later = report-any k (n + 1) (p + length c) (R .after p t l) (Q .after p u l) cs in
+      report-cons _ _ ∙ rw (same l, later) (sym (report-cons _ _))
 
 -- ---- reading by reading
 
