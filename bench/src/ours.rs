@@ -2,6 +2,7 @@
 extern "C" {
     fn timed_read(log: *const u8, len: usize) -> u64;
     fn timed_step(log: *const u8, len: usize) -> u64;
+    fn timed_walk(log: *const u8, len: usize) -> u64;
     fn timed_lookup(log: *const u8, len: usize, a: u8, b: u8, c: u8) -> u64;
     fn timed_print(log: *const u8, len: usize, buf: *mut u8, room: usize) -> u64;
 }
@@ -12,6 +13,10 @@ pub fn read(log: &str) -> u64 {
 
 pub fn step(log: &str) -> u64 {
     unsafe { timed_step(log.as_ptr(), log.len()) }
+}
+
+pub fn walk(log: &str) -> u64 {
+    unsafe { timed_walk(log.as_ptr(), log.len()) }
 }
 
 pub fn look_up(log: &str) -> u64 {

@@ -1,6 +1,6 @@
 //! The same work by igc-rs: the sums are those of crates/bench_loops, so that neither side can leave a reading out.
 use igc::parse::parse_records;
-use igc::records::{BRecord, Extendable, IRecord, Record};
+use igc::records::{BRecord, Extendable, FixValid, IRecord, Record};
 use std::fmt::Write;
 use std::hint::black_box;
 
@@ -24,6 +24,19 @@ pub fn read(log: &str) -> u64 {
         });
     }
     sum
+}
+
+/// What a report's figures sum up to, worked out from all records at once; it is not timed.
+pub fn report(log: &str) -> u64 {
+    let fixes: Vec<_> = parse_records(log).filter_map(|r| if let Ok(Record::B(fix)) = r { Some(fix) } else { None }).collect();
+    let marked: Vec<_> = fixes.iter().filter(|f| f.fix_valid == FixValid::Valid).collect();
+    let ends = |of: &dyn Fn(&BRecord) -> i16| match (marked.iter().map(|f| of(f)).max(), marked.iter().map(|f| of(f)).min()) {
+        (Some(high), Some(low)) => above(high) + above(low),
+        _ => 0,
+    };
+    let seconds: Vec<u64> = fixes.iter().map(|f| f.timestamp.seconds_since_midnight() as u64).collect();
+    let times = seconds.iter().max().unwrap_or(&0) + seconds.iter().min().unwrap_or(&0);
+    log.lines().count() as u64 + fixes.len() as u64 + ends(&|f| f.pressure_alt) + ends(&|f| f.gps_alt) + times
 }
 
 fn of_value(table: &Option<IRecord>, fix: &BRecord, name: &str) -> u64 {

@@ -13,6 +13,10 @@ use Rattle.held.specs.Held.{lookUp}
 use Rattle.held.specs.declared.Held.{Held}
 use Rattle.log.specs.Log.{readings}
 use Rattle.log.specs.Fold.{over}
+use Rattle.report.specs.Range.{Range, none, between}
+use Rattle.report.specs.Figures.{Figures}
+use Rattle.report.specs.Report.{reportOf}
+use Rattle.report.specs.declared.{pressure.PressurePeak.PressurePeak, gps.GpsPeak.GpsPeak}
 use Rattle.walk.specs.Readings.{Line-read, reader}
 
 -- A sum, as 64 bits hold it.
@@ -40,6 +44,19 @@ ofAccepted Missing = 1
 unfoldable pub ofAnswer : Res Record → ℕ
 ofAnswer (ok r) = ofAccepted (recordFix r)
 ofAnswer (no n) = 0
+
+-- Of the highest and the lowest, by what f tells of each; where there is none 0.
+unfoldable pub ofRange : {P : Type 0} → (P → ℕ) → Range P → ℕ
+ofRange f none = 0
+ofRange f (between high low) = summed (f high) (f low)
+
+-- Of a report its lines and fixes, its heights and its times.
+unfoldable pub ofFigures : Figures PressurePeak GpsPeak → ℕ
+ofFigures f =
+    summed
+    (summed (summed (f .lines) (f .fixes))
+    (summed (ofRange (λ p. above (p .height .0)) (f .pressure)) (ofRange (λ p. above (p .height .0)) (f .gps))))
+    (ofRange (λ t. t) (f .times))
 
 -- Of a value: its length and its first byte.
 unfoldable pub ofValue : List ℕ → ℕ
@@ -88,6 +105,10 @@ printStep o x = let text = answerPrinted (x .answer) (x .line) in record {
 -- The sum over a log's answers.
 unfoldable pub readSum : List ℕ → ℕ
 readSum log = over readStep 0 (readings reader log)
+
+-- The figures of a log's report.
+unfoldable pub reportSum : List ℕ → ℕ
+reportSum log = ofFigures (reportOf (readings reader log))
 
 -- The sum over a log's answers and values.
 unfoldable pub lookUpSum : Mnemonic → List ℕ → ℕ

@@ -4,7 +4,8 @@ ghost use mathlib.Core.Path.{_≡_};
 ghost use Rattle.records.specs.Record.{readingRes};
 ghost use Rattle.record_print.specs.Printed.{answerPrinted};
 ghost use Rattle.bench_loops.specs.Timed.{above as Timed·above, ofFix, ofAnswer, ofValue, ofNamed, PrintedLine};
-ghost use Rattle.bench_loops.specs.Timed.{readSum, lookUpSum, printedOut};
+ghost use Rattle.report.specs.Report.{pressureIn, gpsIn, timesIn};
+ghost use Rattle.bench_loops.specs.Timed.{ofRange, readSum, reportSum, lookUpSum, printedOut};
 use b_record::BRecord;
 use field::Mnemonic;
 use held::Held;
@@ -14,6 +15,10 @@ use record_print::print_record;
 use records::MaybeFix;
 use records::Reading;
 use records::Record;
+use report::gps::GpsRange;
+use report::pressure::PressureRange;
+use report::times::TimeRange;
+use reported::end::walk_to_end;
 use std::num::wrapping_add_u64;
 use walk::Taken;
 use walk::Walk;
@@ -82,6 +87,54 @@ pub extern "C" fn timed_step(log: &[u8]) -> u64
         }
     }
     sum
+}
+
+fn of_pressure(range: PressureRange) -> u64
+    ensures { λ r. ⌜ r ≡ ofRange (λ p. Timed·above (p .height .0)) (pressureIn range) ⌝ }
+{
+    match range {
+        PressureRange::Missing => 0,
+        PressureRange::Between { high, low } => {
+            wrapping_add_u64(above(high.height.0), above(low.height.0))
+        }
+    }
+}
+
+fn of_gps(range: GpsRange) -> u64
+    ensures { λ r. ⌜ r ≡ ofRange (λ p. Timed·above (p .height .0)) (gpsIn range) ⌝ }
+{
+    match range {
+        GpsRange::Missing => 0,
+        GpsRange::Between { high, low } => {
+            wrapping_add_u64(above(high.height.0), above(low.height.0))
+        }
+    }
+}
+
+fn of_times(range: TimeRange) -> u64
+    ensures { λ r. ⌜ r ≡ ofRange (λ t. t) (timesIn range) ⌝ }
+{
+    match range {
+        TimeRange::Missing => 0,
+        TimeRange::Between { latest, earliest } => {
+            wrapping_add_u64(latest as u64, earliest as u64)
+        }
+    }
+}
+
+// A walk to its end, which keeps tables and report: the report's figures.
+#[no_mangle]
+pub extern "C" fn timed_walk(log: &[u8]) -> u64
+    ensures { λ r. ⌜ r ≡ reportSum (now (log .entry)) ⌝ }
+{
+    let walk = walk_to_end(Walk::new(), log);
+    let report = walk.report;
+    let pressure = report.pressure;
+    let gps = report.gps;
+    let times = report.times;
+    let counts = wrapping_add_u64(report.lines, report.fixes);
+    let heights = wrapping_add_u64(of_pressure(pressure), of_gps(gps));
+    wrapping_add_u64(wrapping_add_u64(counts, heights), of_times(times))
 }
 
 fn of_value(value: &[u8]) -> u64

@@ -4,7 +4,7 @@ ghost use mathlib.Core.Bool.{true};
 ghost use Prim.Native.Nat.{_≤_};
 ghost use lib.ListN.{length};
 ghost use lib.IntN.{pos};
-ghost use Rattle.files.specs.Input.{CameBehind, FilledBehind, isDash};
+ghost use Rattle.files.specs.Input.{CameBehind, FilledBehind, MoreBehind, isDash};
 use crate::call::Did;
 use crate::call::did_by;
 
@@ -12,6 +12,15 @@ use crate::call::did_by;
 pub enum Filled {
     Ended(usize),
     Full,
+    Failed,
+}
+
+// What came behind the first of some lent bytes: so many; none, for the input has ended, or there is no room for any;
+// or a read failed.
+pub enum Came {
+    Bytes(usize),
+    Ended,
+    NoRoom,
     Failed,
 }
 
@@ -52,6 +61,35 @@ pub fn read_on(fd: i32, buf: &mut [u8], from: usize) -> Filled
         }
     }
     Filled::Full
+}
+
+// Reads behind the first bytes once, as many bytes as are at hand: it waits for the first of them alone.
+pub fn read_more(fd: i32, buf: &mut [u8], from: usize) -> Came
+    ensures { λ r. ⌜ MoreBehind from (now (buf .entry)) (now (buf .exit)) r ⌝ }
+{
+    if buf.len() <= from {
+        return Came::NoRoom;
+    }
+    let mut turns: u64 = 0;
+    while turns < 0xffff_ffff_ffff_ffff {
+        turns += 1;
+        match read_some(fd, buf, from) {
+            Did::Bytes(n) => {
+                return Came::Bytes(n);
+            }
+            Did::Nothing => {
+                return Came::Ended;
+            }
+            Did::Again => {}
+            Did::Closed => {
+                return Came::Failed;
+            }
+            Did::Failed => {
+                return Came::Failed;
+            }
+        }
+    }
+    Came::Failed
 }
 
 // The name that stands for standard input.

@@ -58,6 +58,16 @@ pub fn fail_at(file: &[u8], before: u64, what: &[u8]) {
     }
 }
 
+// Of a log that could not be read to its end what was written looks like that of a shorter one, but for this.
+pub fn say_short(outcome: Outcome, lines: u64) {
+    if lines == 0 {
+        return;
+    }
+    if outcome.cuts_short() {
+        write_all(1, b"! cut short\n");
+    }
+}
+
 // A sentence where something went wrong; where nothing did, 0 on the descriptor `told` if there is one, for whoever
 // started the program: Rattle's programs end with status 0 whatever they saw.
 pub fn tell(told: i32, file: &[u8], outcome: Outcome) {

@@ -25,12 +25,17 @@ use Rattle.h_record.proofs.Answers.{h-undone}
 use Rattle.k_record.proofs.Answers.{k-undone}
 use Rattle.l_record.proofs.Answers.{l-undone}
 use Rattle.records.proofs.Answers.{reading-undone}
-use Rattle.report.proofs.Answers.{reportMade, report-undone}
+use Rattle.report.specs.Report.{reportMade}
+use Rattle.report.proofs.Answers.{report-undone}
 use Rattle.reported.specs.Reported.{SoFar}
 use Rattle.reported.specs.declared.Sofar.{Sofar}
 use Rattle.span.proofs.Answers.{pressureMade, gpsMade, pressure-undone, gps-undone}
 use Rattle.total.proofs.Answers.{totalMade, addedMade, joinedMade, total-undone, added-undone, joined-undone}
 use Rattle.block_read.specs.Block.{Block}
+use Rattle.log.specs.Fold.{Carried}
+use Rattle.watch_text.specs.Watch.{Running}
+use Rattle.watch_text.specs.Feed.{Nothing}
+use Rattle.watch_text.specs.declared.Watch.{Watch}
 use Rattle.sheet_read.specs.Sheet.{Beside}
 use Rattle.bench_loops.specs.Timed.{Out}
 use Rattle.promises.specs.Determined.{Tells, Determined}
@@ -46,6 +51,15 @@ tells-as f undone r q e = sym (undone r) ∙ ap f e ∙ undone q
 -- the code's report so far, with the place of the next line
 abbrev soFarMade : SoFar → Sofar
 soFarMade c = record { report = reportMade (c .figures); place = c .place }
+
+-- the code's state of the screen
+abbrev watchMade : Carried Running Nothing → Watch
+watchMade c = record {
+  report = reportMade (c .held .report);
+  at = record { place = c .place; number = c .number };
+  pressure = c .held .pressure;
+  gps = c .held .gps;
+}
 
 -- each way of stating an answer
 pub determined : Determined
@@ -91,6 +105,7 @@ determined = record {
   sheet =
       tells-as (λ (b : Beside). record { total = totalMade (b .total); verdict = b .verdict })
       (λ r. rw (total-undone (r .total)));
+  watch = tells-as watchMade (λ w. rw (report-undone (w .report)));
   shows = shows-one;
   wrote = wrote-one;
   prints = prints-one;

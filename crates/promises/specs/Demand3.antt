@@ -1,4 +1,7 @@
 -- Demand 3, for this reader, its fresh walks and its lookups by name.
+--
+-- What of a walk's state is compared: its place, its line number and its tables, which is what a `Line-read` has of it
+-- (`walk` Readings `readBy`). The report that it keeps is left out (K8): a replaced fix may have been the summit.
 use Rattle.text.specs.Prelude.{ℕ, _+_, _≡_, Bool, true, not, List, [], _∷_, _++_, length, take, drop, Res, ok, no}
 use Rattle.text.specs.Prelude.{false, pick, _∨?_}
 use Rattle.text.specs.declared.refusal.Refusal.the-variants.{NoTable, SpoiledTable}

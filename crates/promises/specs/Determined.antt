@@ -35,6 +35,7 @@ use Rattle.span.specs.Span.{pressureOver, gpsOver}
 use Rattle.total.specs.Total.{totalIn, addedIn, joinedIn}
 use Rattle.block_read.specs.Block.{blockRead}
 use Rattle.sheet_read.specs.Sheet.{sheetIn}
+use Rattle.watch_text.specs.Feed.{view}
 use Rattle.log.specs.Log.{Reader, LineRead}
 use Rattle.log.specs.Fold.{Carried}
 use Rattle.log.specs.Taking.{Took}
@@ -83,6 +84,7 @@ pub record Determined : Type 1 where
   pub joined : Tells joinedIn
   pub block : Tells blockRead
   pub sheet : Tells sheetIn
+  pub watch : Tells view
   pub shows : {line r₁ r₂ : RefT (List ℕ)} {p : Part} → Shows line p r₁ → Shows line p r₂ →
       (now r₁ ≡ now r₂) × (r₁ .ptr ≡ r₂ .ptr)
   pub wrote : {b t b₁ b₂ : List ℕ} {at r₁ r₂ : ℕ} → Wrote b at t b₁ r₁ → Wrote b at t b₂ r₂ → (r₁ ≡ r₂) × (b₁ ≡ b₂)

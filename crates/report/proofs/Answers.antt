@@ -1,28 +1,12 @@
 -- Any two answers that a contract permits are equal: the view tells its answer.
-use Rattle.text.specs.Prelude.{_≡_}
+use Rattle.text.specs.Prelude.{ℕ, _≡_}
 use Rattle.text.proofs.Prelude.{refl, sym, ap, _∙_}
 use Rattle.report.specs.Range.{Range, none, between}
 use Rattle.report.specs.Figures.{Figures}
-use Rattle.report.specs.Report.{pressureIn, gpsIn, timesIn, figuresIn}
+use Rattle.report.specs.Report.{pressureIn, gpsIn, timesIn, figuresIn, made, reportMade}
 use Rattle.report.specs.declared.{pressure.PressurePeak.PressurePeak, pressure.PressureRange.PressureRange}
 use Rattle.report.specs.declared.{gps.GpsPeak.GpsPeak, gps.GpsRange.GpsRange, times.TimeRange.TimeRange}
 use Rattle.report.specs.declared.Report.{Report}
-
--- what the code holds that is viewed as a range
-abbrev pub made : {P E : Type 0} → E → (P → P → E) → Range P → E
-made missing f none = missing
-made missing f (between high low) = f high low
-
--- what the code holds that is viewed as these figures
-abbrev pub reportMade : Figures PressurePeak GpsPeak → Report
-reportMade f = record {
-  answers = f .answers;
-  lines = f .lines;
-  fixes = f .fixes;
-  pressure = made PressureRange.Missing PressureRange.Between (f .pressure);
-  gps = made GpsRange.Missing GpsRange.Between (f .gps);
-  times = made TimeRange.Missing TimeRange.Between (f .times);
-}
 
 pressure-undone : (r : PressureRange) → made PressureRange.Missing PressureRange.Between (pressureIn r) ≡ r
 pressure-undone PressureRange.Missing = refl
@@ -41,3 +25,23 @@ report-undone r = rw (pressure-undone (r .pressure), gps-undone (r .gps), times-
 
 pub figures-tell : (r q : Report) → figuresIn r ≡ figuresIn q → r ≡ q
 figures-tell r q e = sym (report-undone r) ∙ ap reportMade e ∙ report-undone q
+
+-- the report whose figures are these
+pub report-is : (r : Report) {f : Figures PressurePeak GpsPeak} → figuresIn r ≡ f → r ≡ reportMade f
+report-is r e = sym (report-undone r) ∙ ap reportMade e
+
+-- and the other way round: a report made of figures is viewed as these
+pressure-made : (r : Range PressurePeak) → pressureIn (made PressureRange.Missing PressureRange.Between r) ≡ r
+pressure-made none = refl
+pressure-made (between high low) = refl
+
+gps-made : (r : Range GpsPeak) → gpsIn (made GpsRange.Missing GpsRange.Between r) ≡ r
+gps-made none = refl
+gps-made (between high low) = refl
+
+times-made : (r : Range ℕ) → timesIn (made TimeRange.Missing TimeRange.Between r) ≡ r
+times-made none = refl
+times-made (between latest earliest) = refl
+
+pub figures-made : (f : Figures PressurePeak GpsPeak) → figuresIn (reportMade f) ≡ f
+figures-made f = rw (pressure-made (f .pressure), gps-made (f .gps), times-made (f .times))

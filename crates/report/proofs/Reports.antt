@@ -1,7 +1,7 @@
 -- The report of readings in parts, and reading by reading.
-use Rattle.text.specs.Prelude.{ℕ, suc, _+_, _≤_, _≡_, Bool, true, false, List, [], _∷_, _++_, length, getD, Res, pick}
-use Rattle.text.specs.Prelude.{_=?_, largest}
-use Rattle.text.proofs.Prelude.{arith, refl, sym, _∙_, first, yes≤, and}
+use Rattle.text.specs.Prelude.{ℕ, zero, suc, _+_, _≤_, _<_, _≡_, Bool, true, false, List, [], _∷_, _++_, length, take, getD}
+use Rattle.text.specs.Prelude.{Res, pick, _=?_, _∨?_, largest}
+use Rattle.text.proofs.Prelude.{arith, refl, sym, _∙_, no≤}
 use Rattle.records.specs.Record.{readLine, answered, answerFix}
 use Rattle.records.specs.declared.{Record.Record, MaybeFix.MaybeFix}
 use Rattle.records.proofs.Numbers.{answer-le}
@@ -12,13 +12,14 @@ use Rattle.report.specs.Range.{Every, rangeOf}
 use Rattle.report.specs.Counts.{from, numbers, byNumber, summed}
 use Rattle.report.specs.Figures.{Figures, empty, both}
 use Rattle.report.specs.Report.{fixesIn, ofFix, pressureAt, gpsAt, timeAt, belowPressure, belowGps, answeredWith}
-use Rattle.report.specs.Report.{fixesOf, shown, reportOf, oneOf, roomFor, takenBy, reportStep}
+use Rattle.report.specs.Report.{fixesOf, shown, reportOf, oneOf, takenBy, reportStep, isFull}
 use Rattle.report.specs.Laws.{Agrees}
 use Rattle.report.specs.declared.{pressure.PressurePeak.PressurePeak, gps.GpsPeak.GpsPeak}
 use Rattle.report.proofs.Ranges.{range-append, ordered-range}
 use Rattle.report.proofs.Counts.{length-from, getD-from-le, added-from, getD-added, length-added, summed-added}
 use Rattle.report.proofs.Counts.{one-in-all}
 use Rattle.report.proofs.Figures.{pressure-order, gps-order, times-order, both-assoc, both-empty, empty-both}
+use Rattle.report.proofs.Full.{one-fix, none-reached, taken-below}
 
 -- the figures of what was read first and later, with their places
 abbrev with : Figures PressurePeak GpsPeak → Figures PressurePeak GpsPeak → Figures PressurePeak GpsPeak
@@ -61,21 +62,58 @@ module _ {T : Type 0} where
         both-assoc pressure-order gps-order (oneOf (x .place) (x .answer)) (reportOf xs) (reportOf ys),
       )
 
+-- ---- whatever is held
+
+module _ {T U : Type 0} (R : Reader (Res Record) T) (Q : Reader (Res Record) U)
+    (same : (s : List ℕ) → R .read s ≡ Q .read s) where
+  -- readers that answer alike make one report of the first k lines
+  pub report-any : (k n p : ℕ) (t : T) (u : U) (cs : List (List ℕ)) →
+      reportOf (take k (readFrom R n p t cs)) ≡ reportOf (take k (readFrom Q n p u cs))
+  unfolding readFrom
+  report-any zero n p t u cs = report-none T ∙ sym (report-none U)
+  report-any (suc k) n p t u [] = report-none T ∙ sym (report-none U)
+  report-any (suc k) n p t u (c ∷ cs) =
+      let l = lineText c in
+      let later = report-any k (n + 1) (p + length c) (R .after p t l) (Q .after p u l) cs in
+      report-cons _ _ ∙ rw (same l, later) (sym (report-cons _ _))
+
 -- ---- reading by reading
 
 -- Each count has room for k readings more.
-record Room (f : Figures PressurePeak GpsPeak) (k : ℕ) : Type 0 where
-  wide : length (f .answers) ≡ numbers
-  lines : f .lines + k ≤ largest
-  answers : (n : ℕ) → getD (f .answers) n 0 + k ≤ largest
-  fixes : f .fixes + k ≤ largest
+pub record Room (f : Figures PressurePeak GpsPeak) (k : ℕ) : Type 0 where
+  pub wide : length (f .answers) ≡ numbers
+  pub lines : f .lines + k ≤ largest
+  pub answers : (n : ℕ) → getD (f .answers) n 0 + k ≤ largest
+  pub fixes : f .fixes + k ≤ largest
+
+-- and so for fewer
+pub room-less : {f : Figures PressurePeak GpsPeak} {j k : ℕ} → j ≤ k → Room f k → Room f j
+room-less h room = record {
+  wide = room .wide;
+  lines = omega (arith, room .lines);
+  answers = λ n. omega (arith, room .answers n);
+  fixes = omega (arith, room .fixes);
+}
+
+-- where there is room no count is at its largest
+pub room-open : {f : Figures PressurePeak GpsPeak} {k : ℕ} → Room f (suc k) → isFull f ≡ false
+unfolding isFull _∨?_ pick
+room-open {f} room =
+    let lines : f .lines < largest = omega (arith, room .lines) in
+    let fixes : f .fixes < largest = omega (arith, room .fixes) in
+    rw (no≤ lines, no≤ fixes) (none-reached (f .answers) (λ n. omega (arith, room .answers n)))
+
+-- before the first reading there is room for as many as 64 bits count
+pub room-first : {k : ℕ} → k ≤ largest → Room empty k
+unfolding empty byNumber
+room-first h = record {
+  wide = length-from numbers 0 (λ n. 0);
+  lines = omega arith;
+  answers = λ n. omega (arith, getD-from-le numbers 0 (λ n. 0) 0 n (λ i. omega arith));
+  fixes = omega arith;
+}
 
 -- a reading raises a count by at most one
-one-fix : (m : MaybeFix) → fixesIn m ≤ 1
-unfolding fixesIn
-one-fix (MaybeFix.Fix b) = omega arith
-one-fix MaybeFix.Missing = omega arith
-
 one-at-most : (t : Bool) → pick t 1 0 ≤ 1
 unfolding pick
 one-at-most true = omega arith
@@ -83,14 +121,11 @@ one-at-most false = omega arith
 
 module _ (f : Figures PressurePeak GpsPeak) (p : ℕ) (m : Res Record) {k : ℕ} (room : Room f (suc k)) where
   -- where there is room the reading is taken
-  taken-is : takenBy f p m ≡ with f (oneOf p m)
-  unfolding takenBy roomFor
-  taken-is =
-      sym (first _ (and (yes≤ (omega (arith, room .lines))) (and (yes≤ (omega (arith, room .answers (answered m))))
-      (yes≤ (omega (arith, room .fixes, one-fix (answerFix m)))))) refl)
+  pub taken-is : takenBy f p m ≡ with f (oneOf p m)
+  taken-is = taken-below f (room-open room) p m
 
   -- and room for one reading less is left
-  room-left : Room (with f (oneOf p m)) k
+  pub room-left : Room (with f (oneOf p m)) k
   unfolding both oneOf byNumber
   room-left =
       let one : ℕ → ℕ = λ n. pick (answered m =? n) 1 0 in
@@ -120,15 +155,8 @@ over-taken f (x ∷ xs) room =
 
 pub taken-all : {T : Type 0} (xs : List (LineRead (Res Record) T)) → length xs ≤ largest →
     over reportStep empty xs ≡ reportOf xs
-unfolding empty byNumber
 taken-all xs h =
-    let room : Room empty (length xs) = record {
-      wide = length-from numbers 0 (λ n. 0);
-      lines = omega arith;
-      answers = λ n. omega (arith, getD-from-le numbers 0 (λ n. 0) 0 n (λ i. omega arith));
-      fixes = omega arith;
-    } in
-    over-taken empty xs room ∙ empty-both belowPressure belowGps (reportOf xs) (report-wide xs)
+    over-taken empty xs (room-first h) ∙ empty-both belowPressure belowGps (reportOf xs) (report-wide xs)
 
 -- ---- each line has one of the answers
 

@@ -1,5 +1,5 @@
 -- Counts by answer number.
-use Rattle.text.specs.Prelude.{ℕ, zero, suc, _+_, List, [], _∷_}
+use Rattle.text.specs.Prelude.{ℕ, zero, suc, _+_, Bool, false, List, [], _∷_, _≤?_, _∨?_, largest}
 
 -- The answers to a line have the numbers 0 to 12; lines with another, built by hand, are in no count of these.
 abbrev pub numbers : ℕ
@@ -24,3 +24,8 @@ unfoldable pub added : List ℕ → List ℕ → List ℕ
 added [] ns = ns
 added (m ∷ ms) [] = m ∷ ms
 added (m ∷ ms) (n ∷ ns) = (m + n) ∷ added ms ns
+
+-- One of some counts is at its largest.
+unfoldable pub oneFull : List ℕ → Bool
+oneFull [] = false
+oneFull (n ∷ ns) = (largest ≤? n) ∨? oneFull ns

@@ -1,5 +1,6 @@
 -- The report of a log: each figure by itself over the readings of a walk, and a reading at a time.
-use Rattle.text.specs.Prelude.{ℕ, _+_, Bool, List, [], _∷_, _++_, length, getD, Res, pick, _≤?_, _=?_, _∧?_, largest}
+use Rattle.text.specs.Prelude.{ℕ, _+_, Bool, List, [], _∷_, _++_, length, getD, Res, pick, _≤?_, _=?_, _∧?_, _∨?_}
+use Rattle.text.specs.Prelude.{largest}
 use lib.Signed.{ltZ}
 use Rattle.time.specs.Time.{secondsOf}
 use Rattle.b_record.specs.declared.{BRecord.BRecord, FixValid.FixValid}
@@ -7,7 +8,7 @@ use Rattle.records.specs.Record.{answered, answerFix}
 use Rattle.records.specs.declared.{Record.Record, MaybeFix.MaybeFix}
 use Rattle.log.specs.Log.{LineRead}
 use Rattle.report.specs.Range.{Range, none, between, joined, rangeOf}
-use Rattle.report.specs.Counts.{byNumber}
+use Rattle.report.specs.Counts.{byNumber, oneFull}
 use Rattle.report.specs.Figures.{Figures, earlier, both}
 use Rattle.report.specs.declared.{pressure.PressurePeak.PressurePeak, pressure.PressureRange.PressureRange}
 use Rattle.report.specs.declared.{gps.GpsPeak.GpsPeak, gps.GpsRange.GpsRange, times.TimeRange.TimeRange}
@@ -119,6 +120,10 @@ unfoldable pub reportStep : {T : Type 0} → Figures PressurePeak GpsPeak → Li
     Figures PressurePeak GpsPeak
 reportStep f x = takenBy f (x .place) (x .answer)
 
+-- A count is at its largest: of lines, of accepted B lines, or of an answer.
+unfoldable pub isFull : Figures PressurePeak GpsPeak → Bool
+isFull f = (largest ≤? f .lines) ∨? (largest ≤? f .fixes) ∨? oneFull (f .answers)
+
 -- ---- what the code holds
 
 abbrev pub pressureIn : PressureRange → Range PressurePeak
@@ -142,3 +147,23 @@ figuresIn r = record {
   gps = gpsIn (r .gps);
   times = timesIn (r .times);
 }
+
+-- What the code holds that is viewed as a range.
+abbrev pub made : {P E : Type 0} → E → (P → P → E) → Range P → E
+made missing f none = missing
+made missing f (between high low) = f high low
+
+-- What the code holds that is viewed as these figures.
+abbrev pub reportMade : Figures PressurePeak GpsPeak → Report
+reportMade f = record {
+  answers = f .answers;
+  lines = f .lines;
+  fixes = f .fixes;
+  pressure = made PressureRange.Missing PressureRange.Between (f .pressure);
+  gps = made GpsRange.Missing GpsRange.Between (f .gps);
+  times = made TimeRange.Missing TimeRange.Between (f .times);
+}
+
+-- A report over one reading more, answered m at the place p.
+unfoldable pub reportAfter : Report → ℕ → Res Record → Report
+reportAfter r p m = reportMade (takenBy (figuresIn r) p m)

@@ -6,8 +6,9 @@ pub mod times;
 ghost use mathlib.Core.Path.{_≡_};
 ghost use lib.ListN.{getD, set};
 ghost use Rattle.records.specs.Record.{readingRes};
+ghost use Rattle.report.specs.Counts.{oneFull};
 ghost use Rattle.report.specs.Figures.{empty};
-ghost use Rattle.report.specs.Report.{takenBy, withFix, figuresIn};
+ghost use Rattle.report.specs.Report.{takenBy, withFix, isFull, figuresIn};
 use crate::gps::GpsPeak;
 use crate::gps::GpsRange;
 use crate::pressure::PressurePeak;
@@ -49,6 +50,20 @@ fn with_count(answers: [u64; 13], number: usize, count: u64) -> [u64; 13]
     answers
 }
 
+// One of the counts is at its largest.
+fn one_full(answers: [u64; 13]) -> bool
+    ensures { λ r. ⌜ r ≡ oneFull answers ⌝ }
+{
+    let mut i: usize = 0;
+    while i < 13 {
+        if 0xffff_ffff_ffff_ffff <= answers[i] {
+            return true;
+        }
+        i += 1;
+    }
+    false
+}
+
 impl Report {
     // Over no readings.
     pub fn new() -> Report
@@ -62,6 +77,20 @@ impl Report {
             gps: GpsRange::Missing,
             times: TimeRange::Missing,
         }
+    }
+
+    // A count is at its largest: of lines, of fixes, or of an answer.
+    pub fn is_full(self) -> bool
+        ensures { λ r. ⌜ r ≡ isFull (figuresIn self) ⌝ }
+    {
+        let answers = self.answers;
+        if 0xffff_ffff_ffff_ffff <= self.lines {
+            return true;
+        }
+        if 0xffff_ffff_ffff_ffff <= self.fixes {
+            return true;
+        }
+        one_full(answers)
     }
 
     // With the heights and the time of a fix more; one marked V shows no height.

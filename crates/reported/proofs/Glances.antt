@@ -10,10 +10,11 @@ use Rattle.report.specs.Range.{Range, joined, rangeOf}
 use Rattle.report.specs.Counts.{numbers, byNumber}
 use Rattle.report.specs.Figures.{Figures, earlier, both}
 use Rattle.report.specs.Report.{fixesIn, ofFix, marked, pressureAt, gpsAt, timeAt, belowPressure, belowGps, oneOf}
-use Rattle.report.specs.Report.{roomFor, takenBy}
+use Rattle.report.specs.Report.{roomFor, takenBy, isFull}
 use Rattle.report.specs.declared.{pressure.PressurePeak.PressurePeak, gps.GpsPeak.GpsPeak}
 use Rattle.report.proofs.Ranges.{joined-none, range-none, range-one}
 use Rattle.report.proofs.Counts.{raised}
+use Rattle.report.proofs.Full.{taken-below}
 use Rattle.reported.specs.Glance.{isMarked, plainGlance, fixGlance, glanceAt, glanceOf}
 use Rattle.reported.specs.Flat.{oneSeen, withPressure, withGps, withTime, oneMore, roomBy, glanced}
 use Rattle.reported.specs.declared.glance.Glance.{Glance}
@@ -76,6 +77,10 @@ module _ (f : Figures PressurePeak GpsPeak) (p : ℕ) (m : Res Record) where
         gps-kept p n (f .gps) fix,
         time-kept p n (f .times) fix,
       )
+
+  -- and where no count is at its largest the reading is taken
+  pub glanced-taken : isFull f ≡ false → length (f .answers) ≡ numbers → glanced f p (glanceOf m) ≡ takenBy f p m
+  glanced-taken room wide = glanced-is wide ∙ sym (taken-below f room p m)
 
   -- and it wants the room that the reading wants
   room-is : let g = glanceOf m in

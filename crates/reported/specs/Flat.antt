@@ -1,5 +1,6 @@
 -- The figures of a report as plain numbers, which a loop carries, and one line more in them, by its glance.
-use Rattle.text.specs.Prelude.{ℕ, zero, suc, _+_, Bool, true, List, getD, set, pick, _≤?_, _∧?_, largest}
+use Rattle.text.specs.Prelude.{ℕ, zero, suc, _+_, Bool, true, List, getD, set, pick, _≤?_, _∧?_, _∨?_}
+use Rattle.text.specs.Prelude.{largest}
 use Rattle.b_record.specs.declared.{PressureAlt.PressureAlt, GpsAlt.GpsAlt}
 use Rattle.report.specs.Range.{Range, none, between, joined}
 use Rattle.report.specs.Figures.{Figures, earlier}
@@ -70,6 +71,10 @@ oneMore answers n = set answers n (getD answers n 0 + 1)
 unfoldable pub roomBy : ℕ → ℕ → ℕ → Bool → Bool
 roomBy lines count fixes fix =
     (lines + 1 ≤? largest) ∧? (count + 1 ≤? largest) ∧? (fixes + pick fix 1 0 ≤? largest)
+
+-- A count that a line raises is at its largest: of lines, of fixes, or of its answer.
+unfoldable pub fullBy : ℕ → ℕ → ℕ → Bool
+fullBy lines fixes count = (largest ≤? lines) ∨? (largest ≤? fixes) ∨? (largest ≤? count)
 
 -- Over one line more at a place, where every count has room.
 unfoldable pub glanced : Figures PressurePeak GpsPeak → ℕ → Glance → Figures PressurePeak GpsPeak

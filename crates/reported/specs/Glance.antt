@@ -1,6 +1,7 @@
 -- What a report wants of the answer to a line.
-use Rattle.text.specs.Prelude.{ℕ, Bool, true, false, pos, Res}
+use Rattle.text.specs.Prelude.{ℕ, Bool, true, false, pos, Res, numberOf}
 use Rattle.time.specs.Time.{secondsOf}
+use Rattle.table.specs.declared.Verdict.{Verdict}
 use Rattle.b_record.specs.declared.{BRecord.BRecord, FixValid.FixValid}
 use Rattle.records.specs.Record.{answered, answerFix}
 use Rattle.records.specs.declared.{Record.Record, MaybeFix.MaybeFix}
@@ -41,3 +42,8 @@ glanceAt n (MaybeFix.Fix b) = fixGlance n b
 -- Of an answer.
 unfoldable pub glanceOf : Res Record → Glance
 glanceOf m = glanceAt (answered m) (answerFix m)
+
+-- The paper's number of an I or a J line with that verdict.
+unfoldable pub tableNumber : Verdict → ℕ
+tableNumber Verdict.Accepted = 0
+tableNumber (Verdict.Refused n) = numberOf n

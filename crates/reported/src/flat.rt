@@ -6,7 +6,7 @@ ghost use mathlib.Core.List.{List};
 ghost use Rattle.text.specs.Word.{largest};
 ghost use Rattle.text.specs.Res.{pick};
 ghost use Rattle.report.specs.Report.{figuresIn};
-ghost use Rattle.reported.specs.Flat.{flatIn, roomBy, oneMore, glanced};
+ghost use Rattle.reported.specs.Flat.{flatIn, roomBy, fullBy, oneMore, glanced};
 use crate::glance::Glance;
 use crate::gps::GpsEnds;
 use crate::pressure::PressureEnds;
@@ -79,6 +79,19 @@ impl Flat {
             return self.fixes < 0xffff_ffff_ffff_ffff;
         }
         true
+    }
+
+    // A count that a line raised is at its largest; `count` is that of its answer.
+    pub(crate) fn is_full(self, count: u64) -> bool
+        ensures { λ r. ⌜ r ≡ fullBy (self .lines) (self .fixes) count ⌝ }
+    {
+        if 0xffff_ffff_ffff_ffff <= self.lines {
+            return true;
+        }
+        if 0xffff_ffff_ffff_ffff <= self.fixes {
+            return true;
+        }
+        0xffff_ffff_ffff_ffff <= count
     }
 
     // Over one line more, at a place.

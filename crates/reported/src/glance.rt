@@ -4,7 +4,7 @@ ghost use mathlib.Core.Path.{_≡_};
 ghost use Rattle.text.specs.Res.{bind, ok};
 ghost use Rattle.b_record.specs.BRecord.{readB};
 ghost use Rattle.records.specs.Record.{readLine};
-ghost use Rattle.reported.specs.Glance.{isMarked, plainGlance, fixGlance, glanceOf};
+ghost use Rattle.reported.specs.Glance.{isMarked, plainGlance, fixGlance, glanceOf, tableNumber};
 use b_quick::Quick;
 use b_quick::quick_fix;
 use b_record::BRead;
@@ -13,6 +13,7 @@ use b_record::FixValid;
 use b_record::GpsAlt;
 use b_record::PressureAlt;
 use records::Record;
+use table::Verdict;
 use text::line::begins;
 
 pub(crate) struct Glance {
@@ -77,6 +78,16 @@ fn of_b(line: &[u8]) -> Glance
             BRead::Ok(b) => of_fix(b),
             BRead::Refused(no_b) => of_other(no_b.number()),
         },
+    }
+}
+
+// Of an I or a J line with that verdict.
+pub(crate) fn of_table(verdict: Verdict) -> Glance
+    ensures { λ r. ⌜ r ≡ plainGlance (tableNumber verdict) ⌝ }
+{
+    match verdict {
+        Verdict::Accepted => of_other(0),
+        Verdict::Refused(no_table) => of_other(no_table.number()),
     }
 }
 

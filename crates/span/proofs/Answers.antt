@@ -2,7 +2,7 @@
 use Rattle.text.specs.Prelude.{_≡_}
 use Rattle.text.proofs.Prelude.{refl}
 use Rattle.report.specs.Range.{Range}
-use Rattle.report.proofs.Answers.{made}
+use Rattle.report.specs.Report.{made}
 use Rattle.span.specs.Span.{pressureOver, gpsOver}
 use Rattle.span.specs.declared.{pressure.PressureSpot.PressureSpot, pressure.PressureSpan.PressureSpan}
 use Rattle.span.specs.declared.{gps.GpsSpot.GpsSpot, gps.GpsSpan.GpsSpan}

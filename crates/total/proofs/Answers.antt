@@ -2,7 +2,8 @@
 use Rattle.text.specs.Prelude.{ℕ, zero, suc, _≡_}
 use Rattle.text.proofs.Prelude.{refl}
 use Rattle.report.specs.declared.times.TimeRange.{TimeRange}
-use Rattle.report.proofs.Answers.{made, times-undone}
+use Rattle.report.specs.Report.{made}
+use Rattle.report.proofs.Answers.{times-undone}
 use Rattle.span.proofs.Answers.{pressureMade, gpsMade, pressure-undone, gps-undone}
 use Rattle.total.specs.Total.{Totals, Given, Beside, totalIn, addedIn, verdictNumber, joinedIn}
 use Rattle.total.specs.declared.{Total.Total, Added.Added, Verdict.Verdict, Joined.Joined}

@@ -1,7 +1,7 @@
 -- Laws of a step.
 use Rattle.text.specs.Prelude.{ℕ, _+_, _≤_, _<_, _≡_, Bool, true, false, List, length, Res, ok, no, pick, _≤?_, _∧?_}
 use Rattle.text.specs.Prelude.{largest}
-use Rattle.text.proofs.Prelude.{arith, refl, sym, ap, _∙_, first, yes≤, is≤, both, and}
+use Rattle.text.proofs.Prelude.{arith, refl, sym, ap, _∙_, first, second, yes≤, is≤, both, and}
 use Rattle.part.specs.Part.{bytesOf, findPart, shown}
 use Rattle.part.proofs.Parts.{shown-found}
 use Rattle.records.specs.Record.{readLine, readingRes}
@@ -12,8 +12,11 @@ use Rattle.log.specs.declared.Cut.{Cut}
 use Rattle.log.proofs.Cuts.{cut-inside}
 use Rattle.held.specs.Tables.{tablesAfter}
 use Rattle.held.specs.declared.tables.Tables.{Tables}
+use Rattle.report.specs.Report.{takenBy, isFull, figuresIn, reportAfter}
+use Rattle.report.specs.declared.Report.{Report}
+use Rattle.report.proofs.Answers.{report-is}
 use Rattle.cursor.specs.Cursor.{past, nextOf}
-use Rattle.walk.specs.Walk.{readingOf, stepTo, stepOf}
+use Rattle.walk.specs.Walk.{readingOf, nextIn, stepTo, stepOf}
 use Rattle.cursor.specs.declared.{Cursor.Cursor, Next.Next}
 use Rattle.walk.specs.declared.{Walk.Walk, Step.Step}
 use Rattle.walk.specs.declared.Taken.the-variants.{Line, Done}
@@ -55,26 +58,41 @@ module _ (s : List ℕ) where
 
   -- and a step reads it
   pub step-on : (w : Walk) → w .at .place < length s → w .at .number < largest
+      → isFull (figuresIn (w .report)) ≡ false
       → let l = bytesOf (cutAt (w .at .place) s .line) s in
       stepOf s w ≡ record {
-        walk = record { at = past (w .at) (cutAt (w .at .place) s); held = tablesAfter (w .held) l };
+        walk = record {
+          at = past (w .at) (cutAt (w .at .place) s);
+          held = tablesAfter (w .held) l;
+          report = reportAfter (w .report) (w .at .place) (readLine l);
+        };
         taken = Line (cutAt (w .at .place) s .line) (readingOf (readLine l));
       }
-  unfolding stepOf stepTo
-  step-on w h n = ap (stepTo s w) (next-on (w .at) h n)
+  unfolding stepOf stepTo nextIn
+  step-on w h n room = ap (stepTo s w) (sym (second _ room refl) ∙ next-on (w .at) h n)
 
-  pub step-done : (w : Walk) → Next.Done ≡ nextOf s (w .at) →
+  -- where no line comes next the walk stays
+  pub step-done : (w : Walk) → isFull (figuresIn (w .report)) ≡ false → Next.Done ≡ nextOf s (w .at) →
       _≡_ {A = Step} (record { walk = w; taken = Done }) (stepOf s w)
-  unfolding stepOf stepTo
-  step-done w e = rw (sym e)
+  unfolding stepOf stepTo nextIn pick
+  step-done w room e = rw (room, sym e)
 
-  -- the line l of the cut, its reading r and what is held after it are the step
-  pub step-line : (w : Walk) {cut : Cut} {after : Cursor} {l : List ℕ} {r : Reading} {h : Tables} →
-      Next.Line cut after ≡ nextOf s (w .at)
-      → l ≡ bytesOf (shown (findPart (cut .line) s)) s → readingRes r ≡ readLine l → h ≡ tablesAfter (w .held) l
-      → _≡_ {A = Step} (record { walk = record { held = h; at = after }; taken = Line (cut .line) r }) (stepOf s w)
-  unfolding stepOf stepTo
-  step-line w {cut} {after} {l} {r} {h} e v a g =
+  -- and so it does where a count is at its largest
+  pub step-full : (w : Walk) → isFull (figuresIn (w .report)) ≡ true →
+      _≡_ {A = Step} (record { walk = w; taken = Done }) (stepOf s w)
+  unfolding stepOf stepTo nextIn pick
+  step-full w full = rw full
+
+  -- the line l of the cut, its reading r, the report after it and what is held after it are the step
+  pub step-line : (w : Walk) {cut : Cut} {after : Cursor} {l : List ℕ} {r : Reading} {f : Report} {h : Tables} →
+      isFull (figuresIn (w .report)) ≡ false
+      → Next.Line cut after ≡ nextOf s (w .at)
+      → l ≡ bytesOf (shown (findPart (cut .line) s)) s → readingRes r ≡ readLine l
+      → figuresIn f ≡ takenBy (figuresIn (w .report)) (w .at .place) (readingRes r) → h ≡ tablesAfter (w .held) l
+      → _≡_ {A = Step} (record { walk = record { held = h; report = f; at = after }; taken = Line (cut .line) r })
+      (stepOf s w)
+  unfolding stepOf stepTo nextIn reportAfter pick
+  step-line w {cut} {after} {l} {r} {f} {h} room e v a u g =
       let i = next-is (w .at) cut after e in
       let b : l ≡ bytesOf (cut .line) s = v ∙ rw (i .0) (ap (λ p. bytesOf p s) (cut-shown (w .at .place) (i .1))) in
-      rw (g, reading-is r a, b, sym e)
+      rw (g, report-is f (rw a at u), reading-is r a, b, room, sym e)

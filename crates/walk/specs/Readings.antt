@@ -1,5 +1,5 @@
 -- What the steps of a walk read, as readings of its lines, and this reader among readers of lines.
-use Rattle.text.specs.Prelude.{ℕ, zero, suc, code, _≡_, List, [], _∷_, Res, pick, begins}
+use Rattle.text.specs.Prelude.{ℕ, zero, suc, code, _≡_, List, [], _∷_, length, Res, pick, begins}
 use mathlib.Core.Path.{refl}
 use Rattle.part.specs.Part.{bytesOf}
 use Rattle.table.specs.Table.{readTable}
@@ -65,3 +65,12 @@ readBy s (Line part reading) w later =
 unfoldable pub walked : ℕ → List ℕ → Walk → List Line-read
 walked zero s w = []
 walked (suc k) s w = readBy s (stepOf s w .taken) (stepOf s w .walk) (walked k s (stepOf s w .walk))
+
+-- The walk after k steps.
+unfoldable pub afterSteps : ℕ → List ℕ → Walk → Walk
+afterSteps zero s w = w
+afterSteps (suc k) s w = afterSteps k s (stepOf s w .walk)
+
+-- The walk at its end: a step takes a byte at least, so after as many steps as the log has bytes it is done.
+unfoldable pub atEnd : List ℕ → Walk → Walk
+atEnd s w = afterSteps (length s) s w

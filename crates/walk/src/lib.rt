@@ -1,4 +1,5 @@
-// The walk over a log, by value: place, line number, and the tables of definitions in force.
+// The walk over a log, by value: place, line number, the tables of definitions in force, and the report of the lines
+// read so far.
 pub mod turn;
 
 ghost use mathlib.Core.Path.{_≡_};
@@ -16,10 +17,12 @@ use part::Found;
 use part::Part;
 use records::Reading;
 use records::Record;
+use report::Report;
 use text::line::begins;
 
 pub struct Walk {
     pub held: Tables,
+    pub report: Report,
     pub at: Cursor,
 }
 
@@ -36,20 +39,28 @@ pub struct Step {
 }
 
 impl Walk {
-    // At the log's start, with no table.
+    // At the log's start, with no table and the report of no lines.
     pub fn new() -> Walk
         ensures { λ r. ⌜ r ≡ fresh ⌝ }
     {
         let held = Tables::new();
+        let report = Report::new();
         let at = Cursor::new();
-        Walk { held, at }
+        Walk { held, report, at }
     }
 
-    // Reads the line at the place, and moves on.
+    // Reads the line at the place, and moves on. Where a count is at its largest the walk is done.
     pub fn step(self, log: &[u8]) -> Step
         ensures { λ r. ⌜ r ≡ stepOf (now (log .entry)) self ⌝ }
     {
         let at = self.at;
+        let before = self.report;
+        if before.is_full() {
+            return Step {
+                walk: self,
+                taken: Taken::Done,
+            };
+        }
         match at.next(log) {
             Next::Done => Step {
                 walk: self,
@@ -58,14 +69,20 @@ impl Walk {
             Next::Line(cut, after) => {
                 let part = cut.line;
                 let line = part.view(log);
-                let taken = Taken::Line(part, Record::parse_line(line));
+                let reading = Record::parse_line(line);
+                let report = before.after(at.place as u64, reading);
+                let taken = Taken::Line(part, reading);
                 // What `Tables::after` does, with each table copied once.
                 if begins(b'I', line) {
                     let i = Held::set_by(line);
                     let j = self.held.j;
                     let held = Tables { i, j };
                     return Step {
-                        walk: Walk { held, at: after },
+                        walk: Walk {
+                            held,
+                            report,
+                            at: after,
+                        },
                         taken,
                     };
                 }
@@ -74,13 +91,21 @@ impl Walk {
                     let j = Held::set_by(line);
                     let held = Tables { i, j };
                     return Step {
-                        walk: Walk { held, at: after },
+                        walk: Walk {
+                            held,
+                            report,
+                            at: after,
+                        },
                         taken,
                     };
                 }
                 let held = self.held;
                 Step {
-                    walk: Walk { held, at: after },
+                    walk: Walk {
+                        held,
+                        report, // with this line, accepted or not
+                        at: after,
+                    },
                     taken,
                 }
             }

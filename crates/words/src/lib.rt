@@ -5,15 +5,16 @@ ghost use lib.ListN.{length};
 use block_read::starts_with;
 use files::input::is_dash;
 use files::input::open;
-use files::outcome::Outcome;
 use files::output::write_all;
 use files::say::fail;
+use files::say::say_short;
 use files::say::tell;
 use joins::run_join;
 use names::read_names;
 use products::Product;
 use seasons::run_season;
 use stream::run;
+use watches::run_watch;
 
 // A line is at most this long.
 fn window() -> [u8; 1048576]
@@ -34,16 +35,6 @@ fn name_buffer() -> [u8; 12288]
     ensures { λ r. ⌜ 12288 ≡ length r ⌝ }
 {
     [0; 12288]
-}
-
-// Of a log that could not be read to its end what was written looks like that of a shorter one, but for this.
-fn say_short(outcome: Outcome, lines: u64) {
-    if lines == 0 {
-        return;
-    }
-    if outcome.cuts_short() {
-        write_all(1, b"! cut short\n");
-    }
 }
 
 fn run_on(product: Product, fd: i32, file: &[u8], names: &[u8], told: i32) {
@@ -165,14 +156,18 @@ fn run_from(at: usize, told: i32)
         run_join(at + 1, told);
         return;
     }
+    if is_word(&word[0..n], b"watch") {
+        run_watch(at + 1, told);
+        return;
+    }
     write_all(
         2,
-        b"tokelivo: none of list, fields, season and join is asked for\n",
+        b"tokelivo: none of list, fields, season, join and watch is asked for\n",
     );
 }
 
-// By the program's words: `list FILE`, `fields FILE NAME..`, `season FILE..` or `join SHEET..`. In front of them may
-// stand a descriptor, as 3: where nothing went wrong, 0 is written there.
+// By the program's words: `list FILE`, `fields FILE NAME..`, `season FILE..`, `join SHEET..` or `watch FILE`. In front
+// of them may stand a descriptor, as 3: where nothing went wrong, 0 is written there.
 pub fn run_words() {
     let mut word = [0u8; 8];
     let n = os::arg(1, &mut word);

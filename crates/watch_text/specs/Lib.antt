@@ -1,0 +1,3 @@
+pub mod Watch
+pub mod Feed
+pub mod Laws
