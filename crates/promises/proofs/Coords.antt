@@ -13,7 +13,7 @@ use Rattle.promises.proofs.Columns.{cut-joined, last-byte, finds-column
 use Rattle.promises.proofs.Copies.{Copy, copy-append, copy-columns, copy-rest, copy-last, finds-copy}
 use Rattle.promises.proofs.Numbers.{nat-copy}
 
-sign-same : (x y : Compass) (l : ℕ) → Finds (signOf x y l) (λ c. compassLetter c ≡ l)
+pub sign-same : (x y : Compass) (l : ℕ) → Finds (signOf x y l) (λ c. compassLetter c ≡ l)
 unfolding signOf
 sign-same x y l = finds-pick (λ e. finds-ok (sym (is= e)))
     (λ _. finds-pick (λ e. finds-ok (sym (is= e))) (λ _. finds-no))
@@ -23,7 +23,7 @@ copy-front : (s : List ℕ) (w : ℕ) {o p : Bool} {t u : List ℕ} → Copy o (
     Copy (o ∨? p) s (t ++ u)
 copy-front s w c d = let j : cut 0 w s ++ drop w s ≡ s = rw zero-add at (cut-joined 0 w s) in rw j at (copy-append c d)
 
-coord-makes : (d limit g t : ℕ) (c : Compass) →
+pub coord-makes : (d limit g t : ℕ) (c : Compass) →
     Finds (coordOf limit g t c)
     (λ v. coordText d v ≡ coordText d (record { degrees = g; «minute_thousandths» = t; sign = c }))
 unfolding coordOf

@@ -12,7 +12,7 @@ use Rattle.promises.proofs.Numbers.{int-copy}
 use Rattle.promises.proofs.Times.{time-copy}
 use Rattle.promises.proofs.Coords.{position-copy}
 
-fix-same : (l : ℕ) → Finds (validOf l) (λ f. validLetter f ≡ l)
+pub fix-same : (l : ℕ) → Finds (validOf l) (λ f. validLetter f ≡ l)
 unfolding validOf
 fix-same l = finds-pick (λ e. finds-ok (sym (is= e))) (λ _. finds-pick (λ e. finds-ok (sym (is= e))) (λ _. finds-no))
 

@@ -21,3 +21,14 @@ pub mod Shown
 pub mod Exceptions
 pub mod Places
 pub mod Halves
+pub mod Settling
+pub mod SettlesCoord
+pub mod SettlesFix
+pub mod SettlesFlight
+pub mod SettlesTask
+pub mod SettlesTurns
+pub mod SettlesRecorder
+pub mod SettlesTable
+pub mod SettlesTimed
+pub mod SettlesLine
+pub mod SettlesLate

@@ -43,7 +43,7 @@ module _ (s : List ℕ) where
   whole-text = on _ (pass _ (yes≤ (omega arith)) refl) (ap ok (sym (take-all (length s) s (le-refl (length s)))))
 
   -- by whether the line begins with the letter b
-  begins : {A : Type 0} (b : ℕ) → (byte 0 s ≡ b → A) → ((byte 0 s =? b) ≡ false → A) → A
+  pub begins : {A : Type 0} (b : ℕ) → (byte 0 s ≡ b → A) → ((byte 0 s =? b) ≡ false → A) → A
   begins b p q = by-test (byte 0 s =? b) (λ e. p (is= e)) q
 
   kind-again : Finds (readKind (kindOf (byte 0 s)) s) (λ r. Again (lineOdd s) s (recordText r t s))

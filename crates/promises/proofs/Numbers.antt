@@ -14,15 +14,15 @@ use Rattle.promises.proofs.Copies.{Copy, neither-odd}
 
 -- ---- a printed number is not odd
 
-not-zeros : (w n : ℕ) → zeros (padded w (suc n)) ≡ false
+pub not-zeros : (w n : ℕ) → zeros (padded w (suc n)) ≡ false
 not-zeros w n = by-test (zeros (padded w (suc n)))
     (λ e. absurd (omega (arith, zeros-value (padded w (suc n)) e, value-padded w (suc n)))) (λ e. e)
 
-plain-padded : (w n : ℕ) → plus (padded w n) ≡ false
+pub plain-padded : (w n : ℕ) → plus (padded w n) ≡ false
 unfolding plus
 plain-padded w n = first-padded w n 43 (omega arith)
 
-plain-signed : (w : ℕ) (z : ℤ) → signedOdd (signed w z) ≡ false
+pub plain-signed : (w : ℕ) (z : ℤ) → signedOdd (signed w z) ≡ false
 unfolding signed signedOdd plus minusZero _=?_ _∧?_ pick
 plain-signed w (pos n) = neither-odd (plain-padded w n) (fails _ (first-padded w n 45 (omega arith)))
 plain-signed w (negsuc n) = neither-odd refl (not-zeros (w - 1) n)

@@ -13,7 +13,7 @@ use Rattle.promises.proofs.Parts.{part-text, name-text, Again, printed-
 
 module _ (s : List ℕ) (a : byte 0 s ≡ 65) where
   -- the maker's triple, and all from column i on
-  maker-made : (maker : Manufacturer) (i w : ℕ) → i + w ≤ length s
+  pub maker-made : (maker : Manufacturer) (i w : ℕ) → i + w ≤ length s
       → ok ((65 ∷ []) ++ (tripleText (tripleOf maker) ++ drop i s)) ≡ aText (aOf s maker i w) s
   unfolding aText aOf aNew aBody
   maker-made maker i w l = on _ (part-text i s w l) (on _ (name-text (i + w) s l) (rw (cut-joined i w s)))

@@ -17,18 +17,22 @@ use Rattle.promises.proofs.Numbers.{nat-copy}
 
 -- ---- definitions
 
+-- its name is all from column 4 on
+pub name-joined : (s : List ℕ) → length s ≡ 7 →
+    mnemonicText (record { 0 = byte 4 s; 1 = byte 5 s; 2 = byte 6 s }) ≡ drop 4 s
+unfolding mnemonicText
+name-joined s l = rw (last-byte 6 s l, joined-byte 5 s (omega arith)) (joined-byte 4 s (omega arith))
+
 definition-copy : (s : List ℕ) → Finds (readExtension s) (λ e. Copy (definitionPlus s) s (extensionText e))
-unfolding readExtension readDefinition definitionPlus extensionText mnemonicText
+unfolding readExtension readDefinition definitionPlus extensionText
 definition-copy s =
     finds-guard _ (λ long. let l : length s ≡ 7 = is= long in
-    let name : (byte 4 s ∷ []) ++ ((byte 5 s ∷ []) ++ (byte 6 s ∷ [])) ≡ drop 4 s =
-    rw (last-byte 6 s l, joined-byte 5 s (omega arith)) (joined-byte 4 s (omega arith)) in
     finds-bind (nat-copy 0 2 255 s (omega arith)) (λ start cs.
     finds-bind (nat-copy 2 2 255 s (omega arith)) (λ end ce.
-    finds-guard _ (λ _. finds-ok (copy-columns s 0 2 cs (rw (← name) at (copy-rest s 2 2 ce)))))))
+    finds-guard _ (λ _. finds-ok (copy-columns s 0 2 cs (rw (← name-joined s l) at (copy-rest s 2 2 ce)))))))
 
 -- k of them in turn
-defs-copy : (k : ℕ) (s : List ℕ) → length s ≡ 7 * k →
+pub defs-copy : (k : ℕ) (s : List ℕ) → length s ≡ 7 * k →
     Finds (readDefs k s) (λ es. Copy (defsPlus k s) s (defsText es) × (length es ≡ k))
 unfolding readDefs defsPlus defsText
 defs-copy zero [] l = finds-ok (copy-itself [], refl)
@@ -40,12 +44,12 @@ defs-copy (suc k) s l =
 
 -- ---- the table
 
-table-text : (b : ℕ) (ds : List Extension) → length ds ≤ 99 →
+pub table-text : (b : ℕ) (ds : List Extension) → length ds ≤ 99 →
     ok ((b ∷ []) ++ (padded 2 (length ds) ++ defsText ds)) ≡ tableText b (tableOf ds)
 unfolding tableText tableBody tableOf defsOf
 table-text b ds h = pass _ (yes≤ h) (rw (take-at ds (replicate (99 - length ds) empty) (length ds) refl))
 
-count-most : (s : List ℕ) → 3 ≤ length s →
+pub count-most : (s : List ℕ) → 3 ≤ length s →
     Finds (columns 1 3 (readNat 255) s) (λ n. Copy (plus (cut 1 3 s)) (cut 1 3 s) (padded 2 n) × (n ≤ 99))
 count-most s l =
     let few : Finds (readNat 255 (cut 1 3 s)) (λ n. n ≤ 99) = record {

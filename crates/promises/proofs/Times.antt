@@ -21,11 +21,11 @@ three-copy make text makes s l =
     finds-bind (nat-copy 4 2 255 s (omega arith)) (λ c cc.
     finds-copy text (makes a b c) (copy-columns s 0 2 ca (copy-columns s 2 2 cb (copy-last s 4 6 l cc))))))
 
-time-makes : (h m s : ℕ) → Finds (timeOf h m s) (λ t. timeText t ≡ threeText h m s)
+pub time-makes : (h m s : ℕ) → Finds (timeOf h m s) (λ t. timeText t ≡ threeText h m s)
 unfolding timeOf timeText
 time-makes h m s = finds-guard _ (λ _. finds-ok refl)
 
-date-makes : (d m y : ℕ) → Finds (dateOf d m y) (λ t. dateText t ≡ threeText d m y)
+pub date-makes : (d m y : ℕ) → Finds (dateOf d m y) (λ t. dateText t ≡ threeText d m y)
 unfolding dateOf dateText
 date-makes d m y = finds-guard _ (λ _. finds-ok refl)
 

@@ -8,3 +8,4 @@ pub mod Fields
 pub mod Determined
 pub mod Place
 pub mod Halves
+pub mod Settle

@@ -6,11 +6,13 @@ mod hand;
 mod lines;
 mod logs;
 mod random;
+mod settle;
 mod vectors;
 mod view;
 
 use compare::{Class, Tally};
 use logs::{Job, Logs};
+use settle::Settled;
 use std::ffi::OsStr;
 use std::io::{Read, Write};
 use std::os::unix::ffi::OsStrExt;
@@ -69,23 +71,25 @@ fn fields(command: &[&str], job: &Job) -> std::io::Result<Vec<u8>> {
 fn run(seed: u64, command: &[&str]) {
     let (send, receive) = sync_channel::<Job>(8);
     let receive = Mutex::new(receive);
-    let mut all = Tally::default();
+    let (mut all, mut twice) = (Tally::default(), Settled::default());
     std::thread::scope(|scope| {
         let work = || {
-            let mut tally = Tally::default();
+            let (mut tally, mut settled) = (Tally::default(), Settled::default());
             loop {
                 let job = receive.lock().unwrap().recv();
                 let job = match job {
                     Ok(job) => job,
-                    Err(_) => return tally,
+                    Err(_) => return (tally, settled),
                 };
-                match fields(command, &job) {
-                    Ok(text) => tally.compare(&job, &text),
-                    Err(error) => {
+                let ask = |job: &Job| {
+                    fields(command, job).unwrap_or_else(|error| {
                         eprintln!("oracle: {}: {}", command[0], error);
                         exit(2);
-                    }
-                }
+                    })
+                };
+                let text = ask(&job);
+                tally.compare(&job, &text);
+                settled.compare(&job, &text, &ask(&settle::again(&job, &text)));
             }
         };
         let workers: Vec<_> = (0..WORKERS).map(|_| scope.spawn(work)).collect();
@@ -95,19 +99,36 @@ fn run(seed: u64, command: &[&str]) {
         random::random(&mut logs, seed, RANDOM_LINES);
         drop(send);
         for worker in workers {
-            all.add(worker.join().unwrap());
+            let (tally, settled) = worker.join().unwrap();
+            all.add(tally);
+            twice.add(settled);
         }
     });
     report(seed, &all);
+    report_twice(&twice);
     let asked = hand::asked();
     let others: Vec<_> = asked.iter().filter(|(_, listed, said)| listed != said).collect();
     println!("{:>10}  of {} that no line reaches, asked of the Rust by hand, other than listed", others.len(), asked.len());
     for (what, listed, said) in &others {
         println!("\n{}\n  listed:   {}\n  the Rust: {}", what, listed, said);
     }
-    if all.unlisted > 0 || !others.is_empty() {
+    if all.unlisted > 0 || twice.late > 0 || !others.is_empty() {
         exit(1);
     }
+}
+
+/// What the second printing of each accepted line came to.
+fn report_twice(twice: &Settled) {
+    println!("\n   settled  at once: the printed text read and printed again");
+    println!("{:>10}  with every field, text and place as before", twice.same);
+    println!("{:>10}  with an A line's texts two columns on", twice.letters);
+    println!("{:>10}  with a flight date of zeros with a plus, which is none then", twice.flights);
+    println!("{:>10}  A lines in letter form with an unknown maker, not held to it", twice.unknown);
+    println!("{:>10}  late", twice.late);
+    for shown in &twice.shown {
+        println!("\n{}", shown);
+    }
+    println!();
 }
 
 fn report(seed: u64, all: &Tally) {
