@@ -28,11 +28,12 @@ pub fn read(log: &str) -> u64 {
 
 /// What a report's figures sum up to, worked out from all records at once; it is not timed.
 pub fn report(log: &str) -> u64 {
-    let fixes: Vec<_> = parse_records(log).filter_map(|r| if let Ok(Record::B(fix)) = r { Some(fix) } else { None }).collect();
+    let fix = |read| if let Ok(Record::B(fix)) = read { Some(fix) } else { None };
+    let fixes: Vec<_> = parse_records(log).filter_map(fix).collect();
     let marked: Vec<_> = fixes.iter().filter(|f| f.fix_valid == FixValid::Valid).collect();
-    let ends = |of: &dyn Fn(&BRecord) -> i16| match (marked.iter().map(|f| of(f)).max(), marked.iter().map(|f| of(f)).min()) {
-        (Some(high), Some(low)) => above(high) + above(low),
-        _ => 0,
+    let ends = |of: &dyn Fn(&BRecord) -> i16| {
+        let heights: Vec<i16> = marked.iter().map(|f| of(f)).collect();
+        heights.iter().max().map_or(0, |&high| above(high)) + heights.iter().min().map_or(0, |&low| above(low))
     };
     let seconds: Vec<u64> = fixes.iter().map(|f| f.timestamp.seconds_since_midnight() as u64).collect();
     let times = seconds.iter().max().unwrap_or(&0) + seconds.iter().min().unwrap_or(&0);
