@@ -3,7 +3,7 @@ use Rattle.text.specs.Prelude.{ℕ, zero, suc, _+_, _≤_, _<_, _≡_, Bool, tr
 use Rattle.text.specs.Prelude.{Res, pick, _=?_, _∨?_, largest}
 use Rattle.text.proofs.Prelude.{arith, refl, sym, _∙_, no≤}
 use Rattle.records.specs.Record.{readLine, answered, answerFix}
-use Rattle.records.specs.declared.{Record.Record, MaybeFix.MaybeFix}
+use Rattle.records.specs.declared.{Record.Record}
 use Rattle.records.proofs.Numbers.{answer-le}
 use Rattle.log.specs.Line.{lineText}
 use Rattle.log.specs.Log.{Reader, LineRead, chunks, readFrom, readings}
@@ -11,7 +11,7 @@ use Rattle.log.specs.Fold.{over}
 use Rattle.report.specs.Range.{Every, rangeOf}
 use Rattle.report.specs.Counts.{from, numbers, byNumber, summed}
 use Rattle.report.specs.Figures.{Figures, empty, both}
-use Rattle.report.specs.Report.{fixesIn, ofFix, pressureAt, gpsAt, timeAt, belowPressure, belowGps, answeredWith}
+use Rattle.report.specs.Report.{ofFix, pressureAt, gpsAt, timeAt, belowPressure, belowGps, answeredWith}
 use Rattle.report.specs.Report.{fixesOf, shown, reportOf, oneOf, takenBy, reportStep, isFull}
 use Rattle.report.specs.Laws.{Agrees}
 use Rattle.report.specs.declared.{pressure.PressurePeak.PressurePeak, gps.GpsPeak.GpsPeak}

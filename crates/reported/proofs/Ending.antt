@@ -1,7 +1,7 @@
 -- The steps of a walk as a loop that carries its report as plain numbers.
 use Rattle.text.specs.Prelude.{ℕ, _+_, _-_, _≤_, _<_, _≡_, Bool, true, false, List, length, getD, set, pick, _≤?_, _∨?_}
 use Rattle.text.specs.Prelude.{largest}
-use Rattle.text.proofs.Prelude.{arith, refl, sym, ap, _∙_, neither}
+use Rattle.text.proofs.Prelude.{arith, sym, ap, _∙_, neither}
 use lib.ListN.{length-set}
 use Rattle.part.specs.Part.{partBytes, bytesOf}
 use Rattle.records.specs.Record.{readLine}
@@ -12,10 +12,8 @@ use Rattle.held.specs.Tables.{tablesAfter}
 use Rattle.held.specs.declared.tables.Tables.{Tables}
 use Rattle.held.proofs.Letters.{other-line}
 use Rattle.cursor.specs.Cursor.{past}
-use Rattle.report.specs.Counts.{numbers, oneFull}
-use Rattle.report.specs.Figures.{Figures}
+use Rattle.report.specs.Counts.{numbers}
 use Rattle.report.specs.Report.{takenBy, isFull, figuresIn, reportMade, reportAfter}
-use Rattle.report.specs.declared.Report.{Report}
 use Rattle.report.proofs.Answers.{report-undone, figures-made}
 use Rattle.report.proofs.Full.{lines-below, fixes-below, answers-below, no-answer-full, full-set}
 use Rattle.walk.specs.Walk.{stepOf, isDone}

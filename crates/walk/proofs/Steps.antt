@@ -15,8 +15,8 @@ use Rattle.report.proofs.Reports.{Room, room-less, room-open, room-first, taken
 use Rattle.cursor.specs.Cursor.{start, past, nextOf}
 use Rattle.walk.specs.Walk.{fresh, nextIn, stepTo, stepOf, isDone}
 use Rattle.walk.specs.Readings.{afterSteps, atEnd}
-use Rattle.walk.specs.declared.{Walk.Walk, Step.Step}
-use Rattle.walk.specs.declared.Taken.the-variants.{Line, Done}
+use Rattle.walk.specs.declared.{Walk.Walk}
+use Rattle.walk.specs.declared.Taken.the-variants.{Done}
 use Rattle.walk.proofs.Laws.{step-on}
 
 -- the second of two tests fails

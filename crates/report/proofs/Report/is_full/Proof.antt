@@ -1,5 +1,5 @@
 use Rattle.text.specs.Prelude.{_∨?_, pick}
-use Rattle.text.proofs.Prelude.{needs, refl, sym, _∙_, yes≤, no≤}
+use Rattle.text.proofs.Prelude.{needs, yes≤, no≤}
 use Rattle.report.specs.Report.{isFull}
 use Rattle.report.proofs.Report.is_full.Statement.{statement}
 use Rattle.report.proofs.Report.is_full.Tie as tie
