@@ -1,7 +1,7 @@
 use Rattle.text.specs.Prelude.{_-_, _≤_}
 use Rattle.text.proofs.Prelude.{needs, arith}
-use Rattle.words.proofs.run_fields_of_input.Statement.{statement}
-use Rattle.words.proofs.run_fields_of_input.Tie as tie
+use Rattle.listings.proofs.run_fields_of_input.Statement.{statement}
+use Rattle.listings.proofs.run_fields_of_input.Tie as tie
 
 -- names that were read are at most 4,096
 at-most-4096 : (c : tie.Then2) → let asked = c .before .before .before .before .before in

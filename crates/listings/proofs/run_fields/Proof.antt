@@ -1,11 +1,11 @@
 use Rattle.text.specs.Prelude.{_-_, _≤_}
 use Rattle.text.proofs.Prelude.{needs, arith}
-use Rattle.words.proofs.run_fields.Statement.{statement}
-use Rattle.words.proofs.run_fields.Tie as tie
+use Rattle.listings.proofs.run_fields.Statement.{statement}
+use Rattle.listings.proofs.run_fields.Tie as tie
 
 -- names that were read are at most 4,096
-at-most-4096 : (c : tie.Then2) →
-    let args = c .before .before .before .before .before .before .args in args .words - args .at - 2 ≤ 4096
+at-most-4096 : (c : tie.Then2) → let asked = c .before .before .before .before .before in
+    asked .arg-count .result - asked .before .before .args .at - 1 ≤ 4096
 at-most-4096 c = c .before .before .read-names .ensures (c .if2 .taken)
 
 pub run-fields-spec : {M : Type 1} → statement M
