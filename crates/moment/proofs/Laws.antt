@@ -125,7 +125,7 @@ own-hour log (ok t) inside = ap found (found-alike log t (inside t refl))
 own-hour log (no n) inside = refl
 
 -- hours are at most 24
-hours-fit : (h m s : ℕ) → Finds (timeOf h m s) (λ t. t .hours ≤ 24)
+pub hours-fit : (h m s : ℕ) → Finds (timeOf h m s) (λ t. t .hours ≤ 24)
 unfolding timeOf
 hours-fit h m s = finds-guard OutOfRange (λ e. finds-ok (is≤ (both e .0)))
 
