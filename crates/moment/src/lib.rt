@@ -45,9 +45,10 @@ fn hour_of(fix: MaybeFix) -> usize
         MaybeFix::Missing => 25,
         MaybeFix::Fix(seen) => {
             let valid = seen.fix_valid;
+            let hours = seen.timestamp.hours as usize;
             match valid {
-                FixValid::Valid => seen.timestamp.hours as usize,
-                FixValid::NavWarning => seen.timestamp.hours as usize, // a fix marked V is a fix
+                FixValid::Valid => hours,
+                FixValid::NavWarning => hours, // a fix marked V is a fix
             }
         }
     }
@@ -79,7 +80,7 @@ impl Index {
     fn lacks(self, hour: usize) -> bool
         ensures { λ r. ⌜ r ≡ lacks self hour ⌝ }
     {
-        if hour < 25 {
+        if hour <= 24 {
             return match self.first_in(hour) {
                 First::Nowhere => true,
                 First::At(_) => false,
@@ -184,7 +185,7 @@ pub fn find_by_walk(log: &[u8], hours: u8, minutes: u8, seconds: u8) -> Moment
     ensures { λ r. ⌜ r ≡ byWalk (now (log .entry)) (timeOf hours minutes seconds) ⌝ }
 {
     match Time::from_hms(hours, minutes, seconds) {
-        TimeRead::Refused(no) => Moment::Refused(no),
+        TimeRead::Refused(no_time) => Moment::Refused(no_time),
         TimeRead::Ok(time) => search(log, 0, time),
     }
 }

@@ -5,7 +5,7 @@ ghost use lib.ListN.{length};
 ghost use Rattle.text.specs.Word.{largest};
 ghost use Rattle.put.specs.Put.{Wrote};
 ghost use Rattle.files.specs.Input.{Within};
-ghost use Rattle.moments.specs.Answers.{answersOf};
+ghost use Rattle.moments.specs.Answers.{wasRead, answersOf};
 use files::input::Filled;
 use files::input::is_dash;
 use files::input::open;
@@ -84,15 +84,23 @@ fn put_answers(filled: Filled, log: &[u8], times: &[u8], text: &mut [u8]) -> usi
     }
 }
 
-// How it ended: what was written counts where the log was read to its end.
-fn tell_end(filled: Filled, file: &[u8], written: Outcome, told: i32) {
+// The log was read to its end; where it was not, a sentence says why it has no answers.
+fn was_read(filled: Filled, file: &[u8]) -> bool
+    ensures { λ r. ⌜ r ≡ wasRead filled ⌝ }
+{
     match filled {
-        Filled::Ended(_) => tell(told, file, written),
-        Filled::Full => refuse(
-            file,
-            b"longer than 4 MiB, the most that is held to go to a moment",
-        ),
-        Filled::Failed => tell(told, file, Outcome::NotRead),
+        Filled::Ended(_) => true,
+        Filled::Full => {
+            refuse(
+                file,
+                b"longer than 4 MiB, the most that is held to go to a moment",
+            );
+            false
+        }
+        Filled::Failed => {
+            tell(-1, file, Outcome::NotRead);
+            false // an error is not the log's end
+        }
     }
 }
 
@@ -100,13 +108,15 @@ fn answer_on(fd: i32, file: &[u8], times: &[u8], told: i32) {
     let mut log = log_buffer();
     let mut text = text_buffer();
     let filled = read_on(fd, &mut log, 0);
+    if !was_read(filled, file) {
+        return;
+    }
     let end = put_answers(filled, &log, times, &mut text);
     if text.len() < end {
         refuse(file, b"the answers have no room");
         return;
     }
-    let written = write_text(1, &mut text[0..end]);
-    tell_end(filled, file, written, told);
+    tell(told, file, write_text(1, &mut text[0..end]));
 }
 
 fn answer_file(file: &[u8], times: &[u8], told: i32) {

@@ -7,7 +7,7 @@ use Rattle.moment.proofs.find_by_walk.Tie as tie
 
 refused : tie.Need-returns
 unfolding byWalk asked
-refused c = ap (byWalk _) (came timeRes (c .before .no .given .1) (c .before .before .before .from-hms .ensures))
+refused c = ap (byWalk _) (came timeRes (c .before .no-time .given .1) (c .before .before .before .from-hms .ensures))
 
 -- the search from place 0 is the walk
 searched : tie.Need-returns-2

@@ -8,7 +8,7 @@ unfolding hourOf
 hour-of-spec =
     tie.close
     (tie.spec
-    (search needs) (search needs) (search needs) (search needs) (search needs) (search needs)
+    (search needs) (search needs) (search needs) (search needs) (search needs)
     (λ c. rw (c .enum-told .given .1))
     (λ c. rw (c .before .before .before .before .fix .given .1))
     (λ c. rw (c .before .before .before .before .fix .given .1)))
