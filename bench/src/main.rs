@@ -74,7 +74,39 @@ fn growth() {
     }
 }
 
+/// The best of some rounds of each, in ns, by turns.
+fn least<const N: usize>(rounds: usize, works: [&dyn Fn() -> u64; N]) -> [f64; N] {
+    let mut took = [f64::MAX; N];
+    for _ in 0..rounds {
+        for (least, work) in took.iter_mut().zip(&works) {
+            let start = Instant::now();
+            black_box(work());
+            *least = least.min(start.elapsed().as_nanos() as f64);
+        }
+    }
+    took
+}
+
+/// A question for each minute of an hour, by the log's own index and by a walk from the start, which have one sum; and
+/// the making of the index beside reading alone. Hours early, in the middle and late in the log, and one in which no
+/// fix is.
+fn moments() {
+    let log = logs::fixes(2_000_000).text;
+    let lines = log.lines().count() as f64;
+    let [read, index] = least(60, [&|| ours::read(&log), &|| ours::index(&log, 12)]);
+    println!();
+    println!("2 MB of B lines, ns a line: read {:.1}, index {:.1}, {:.2}", read / lines, index / lines, index / read);
+    println!("{:<6} {:>12} {:>12} {:>8}", "hour", "us by index", "us by walk", "ratio");
+    for hours in [8, 12, 17, 20] {
+        assert_eq!(ours::moments(&log, hours), ours::walks(&log, hours), "the answers differ");
+        let [with, walks] = least(20, [&|| ours::moments(&log, hours), &|| ours::walks(&log, hours)]);
+        let (x, y) = ((with - index).max(0.0) / 60e3, walks / 60e3);
+        println!("{hours:<6} {x:>12.2} {y:>12.2} {:>8.3}", x / y);
+    }
+}
+
 fn main() {
     beside_the_rust();
     growth();
+    moments();
 }

@@ -5,6 +5,9 @@ extern "C" {
     fn timed_walk(log: *const u8, len: usize) -> u64;
     fn timed_lookup(log: *const u8, len: usize, a: u8, b: u8, c: u8) -> u64;
     fn timed_print(log: *const u8, len: usize, buf: *mut u8, room: usize) -> u64;
+    fn timed_index(log: *const u8, len: usize, hours: u8) -> u64;
+    fn timed_moments(log: *const u8, len: usize, hours: u8, seconds: u8) -> u64;
+    fn timed_walks(log: *const u8, len: usize, hours: u8, seconds: u8) -> u64;
 }
 
 pub fn read(log: &str) -> u64 {
@@ -26,4 +29,18 @@ pub fn look_up(log: &str) -> u64 {
 pub fn print(log: &str) -> u64 {
     let mut buf = [0u8; 1024];
     unsafe { timed_print(log.as_ptr(), log.len(), buf.as_mut_ptr(), buf.len()) }
+}
+
+pub fn index(log: &str, hours: u8) -> u64 {
+    unsafe { timed_index(log.as_ptr(), log.len(), hours) }
+}
+
+/// The index made, and a question for each minute of the hour.
+pub fn moments(log: &str, hours: u8) -> u64 {
+    unsafe { timed_moments(log.as_ptr(), log.len(), hours, 30) }
+}
+
+/// The same questions by a walk from the start.
+pub fn walks(log: &str, hours: u8) -> u64 {
+    unsafe { timed_walks(log.as_ptr(), log.len(), hours, 30) }
 }

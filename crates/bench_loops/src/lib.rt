@@ -1,5 +1,7 @@
 // What bench/ times: whole logs through the public reader. Each answer is a figure over all that a fresh walk reads, so
 // that no reading can be left out.
+pub mod moments;
+
 ghost use mathlib.Core.Path.{_≡_};
 ghost use Rattle.records.specs.Record.{readingRes};
 ghost use Rattle.record_print.specs.Printed.{answerPrinted};

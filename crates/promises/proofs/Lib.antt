@@ -32,3 +32,4 @@ pub mod SettlesTable
 pub mod SettlesTimed
 pub mod SettlesLine
 pub mod SettlesLate
+pub mod Moments

@@ -9,3 +9,4 @@ pub mod Determined
 pub mod Place
 pub mod Halves
 pub mod Settle
+pub mod Moments
