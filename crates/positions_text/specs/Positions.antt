@@ -10,7 +10,7 @@ use Rattle.held.specs.declared.tables.Tables.{Tables}
 use Rattle.walk.specs.Readings.{Line-read, reader}
 use Rattle.finer.specs.Finer.{finerPosition, finerNumber, finerPlace}
 use Rattle.finer.specs.declared.{FinerCoord.FinerCoord, FinerLatitude.FinerLatitude, FinerLongitude.FinerLongitude}
-use Rattle.finer.specs.declared.{FinerPosition.FinerPosition, FinerPositionRead.FinerPositionRead}
+use Rattle.finer.specs.declared.FinerPositionRead.{FinerPositionRead}
 use Rattle.finer.specs.declared.FinerRefusal.{FinerRefusal}
 
 -- A number of either sign and its n, each behind a space, in plain decimal.
