@@ -5,6 +5,7 @@ use Rattle.part.specs.Part.{bytesOf}
 use Rattle.part.specs.declared.Part.{Part}
 use Rattle.raw_coord.specs.declared.RawCoord.{RawCoord}
 use Rattle.b_record.specs.declared.BRecord.{BRecord}
+use Rattle.held.specs.Held.{lookUp}
 use Rattle.held.specs.declared.tables.Tables.{Tables}
 use Rattle.finer.specs.Finer.{LAD, LOD, finely, plainly, after, narrow, readFiner, both, isUndefined}
 use Rattle.finer.specs.Finer.{positionBy, finerPosition, Lies}
@@ -13,7 +14,7 @@ use Rattle.finer.specs.declared.{FinerCoord.FinerCoord, FinerRead.FinerR
 use Rattle.finer.specs.declared.FinerPositionRead.{FinerPositionRead}
 use Rattle.finer.proofs.Parts.{wide}
 use Rattle.finer.proofs.Reading.{read-below}
-use Rattle.finer.proofs.Plain.{no-digits-plain, look-lies}
+use Rattle.finer.proofs.Plain.{no-digits-plain, look-lies, look-some}
 use Rattle.finer.proofs.Digits.{drops}
 
 record Gives (x : FinerRead) (P : FinerCoord → Type 0) : Type 0 where
@@ -92,3 +93,23 @@ unfolding finerPosition
 given fix t s p e =
     position-given _ _ (fix .pos .lat .0) (fix .pos .lon .0) s p
     (look-lies 35 (fix .rest) (t .i) LAD s refl) (look-lies 35 (fix .rest) (t .i) LOD s refl) e
+
+-- ---- a digit at least
+
+read-some : (m : Res Part) (c : RawCoord) (s : List ℕ) → ((p : Part) → m ≡ ok p → 1 ≤ p .len) →
+    Gives (readFiner m c s) (λ f. 1 ≤ f .n)
+unfolding readFiner finely
+read-some m c s long =
+    gives-after (λ p found. gives-narrow (λ _. gives-after (λ _ _. gives-ok (long p found))))
+
+pub some : (fix : BRecord) (t : Tables) (s : List ℕ) (p : FinerPosition) →
+    isUndefined (lookUp 35 (fix .rest) (t .i) LAD s) ≡ false →
+    isUndefined (lookUp 35 (fix .rest) (t .i) LOD s) ≡ false →
+    finerPosition fix t s ≡ FinerPositionRead.Ok p →
+    (1 ≤ p .lat .0 .n) × (1 ≤ p .lon .0 .n)
+unfolding finerPosition positionBy _∨?_ pick
+some fix t s p d k e =
+    let g = both-given _ _ p (rw (d, k) at e) in (
+      read-some _ (fix .pos .lat .0) s (look-some 35 (fix .rest) (t .i) LAD s) .it _ (g .0),
+      read-some _ (fix .pos .lon .0) s (look-some 35 (fix .rest) (t .i) LOD s) .it _ (g .1),
+    )

@@ -5,4 +5,5 @@ pub mod Reading
 pub mod Plain
 pub mod Digits
 pub mod Gives
+pub mod Refused
 pub mod Laws

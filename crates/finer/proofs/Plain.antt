@@ -42,6 +42,10 @@ look-finds base rest h name s =
     finds-guard _ (λ a. finds-guard _ (λ b. finds-guard _ (λ c.
     finds-ok (omega (arith, i .ends, is≤ a, is≤ b, is≤ c), omega (arith, is≤ a, is≤ b, is≤ c)))))))
 
+pub look-some : (base : ℕ) (rest : Part) (h : Held) (name : Mnemonic) (s : List ℕ) (p : Part) →
+    lookUp base rest h name s ≡ ok p → 1 ≤ p .len
+look-some base rest h name s p k = look-finds base rest h name s .found p k .1
+
 pub look-lies : (base : ℕ) (rest : Part) (h : Held) (name : Mnemonic) (s : List ℕ) {m : Res Part} →
     m ≡ lookUp base rest h name s → Lies m s
 look-lies base rest h name s e p k = look-finds base rest h name s .found p (sym e ∙ k) .0
