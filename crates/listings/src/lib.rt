@@ -1,4 +1,5 @@
-// The listing of a file, or the fields of its lines, as the desk's words ask for them.
+// The listing of a file, the fields of its lines, or the finer positions of its fixes, as the desk's words ask for
+// them.
 ghost use mathlib.Core.Path.{_≡_};
 ghost use lib.ListN.{length};
 use files::input::is_dash;
@@ -109,4 +110,18 @@ pub fn run_fields_of_input() {
             -1,
         );
     }
+}
+
+// The finer positions of the fixes of that file; where no argument names one, of standard input.
+pub fn run_positions(at: usize, told: i32) {
+    let words = os::arg_count();
+    if words <= at {
+        run_on(Product::Positions, 0, b"standard input", b"", told);
+        return;
+    }
+    if words - at > 1 {
+        write_all(2, b"tokelivo: positions takes one file\n");
+        return;
+    }
+    run_named(Product::Positions, at, b"", told);
 }

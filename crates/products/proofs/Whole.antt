@@ -13,11 +13,12 @@ use Rattle.trailer_text.specs.declared.Trailer.{Trailer}
 use Rattle.trailer_text.proofs.Counting.{one-refused}
 use Rattle.listing_text.specs.Listing.{lineOf, listed, listingText}
 use Rattle.fields_text.specs.Line.{fieldsOf, fieldsText}
+use Rattle.positions_text.specs.Positions.{positionsOf, positionsText}
 use Rattle.products.specs.Product.{productLine, productLineOf, closing, productText}
 use Rattle.products.specs.Feed.{atFirst, view, isReady, Feeds}
 use Rattle.products.specs.Whole.{Rows, none, next, InPieces}
 use Rattle.products.specs.declared.{Product.Product, Carried.Carried, Fed.Fed}
-use Rattle.products.specs.declared.Product.the-variants.{Listing, Fields}
+use Rattle.products.specs.declared.Product.the-variants.{Listing, Fields, Positions}
 use Rattle.products.proofs.Feeding.{one-line-fed, within-64-bits, so-ready, called}
 
 -- The product of a listing is the listing.
@@ -29,6 +30,11 @@ listing-is names log = refl
 fields-is : (names log : List ℕ) → productText Fields names log ≡ fieldsText names log
 unfolding productText fieldsText productLineOf productLine fieldsOf closing
 fields-is names log = append-nil _
+
+-- That of positions is the positions of the fixes.
+positions-is : (names log : List ℕ) → productText Positions names log ≡ positionsText log
+unfolding productText positionsText productLineOf productLine positionsOf closing
+positions-is names log = append-nil _
 
 -- ---- calls one after the other
 
@@ -84,6 +90,7 @@ pub in-pieces : InPieces
 in-pieces = record {
   listing = listing-is;
   fields = fields-is;
+  positions = positions-is;
   whole = whole-is;
   at-first = first-ready;
   later = still-ready;

@@ -17,6 +17,7 @@ use walk::turn::read_at;
 pub enum Product {
     Listing,
     Fields,
+    Positions,
 }
 
 // What goes from piece to piece: the tables in force, the place of the next line, and the figures over the lines before.
@@ -52,6 +53,7 @@ fn put_line(
     match product {
         Product::Listing => listing_text::put_line(buf, at, number, line, reading),
         Product::Fields => fields_text::line::put_line(buf, at, number, line, reading, held, names),
+        Product::Positions => positions_text::put_line(buf, at, number, line, reading, held),
     }
 }
 
@@ -152,5 +154,6 @@ pub fn put_closing(buf: &mut [u8], at: usize, product: Product, c: Carried) -> u
     match product {
         Product::Listing => trailer.put(buf, at),
         Product::Fields => at,
+        Product::Positions => at,
     }
 }

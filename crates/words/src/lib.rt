@@ -5,6 +5,7 @@ use files::output::write_all;
 use joins::run_join;
 use listings::run_fields;
 use listings::run_list;
+use listings::run_positions;
 use moments::run_moment;
 use seasons::run_season;
 use watches::run_watch;
@@ -39,6 +40,10 @@ fn run_on_one(word: &[u8], at: usize, told: i32) -> bool {
     }
     if is_word(word, b"fields") {
         run_fields(at, told);
+        return true;
+    }
+    if is_word(word, b"positions") {
+        run_positions(at, told);
         return true;
     }
     if is_word(word, b"watch") {
@@ -79,12 +84,13 @@ fn run_from(at: usize, told: i32)
     }
     write_all(
         2,
-        b"tokelivo: none of list, fields, season, join, watch and moment is asked for\n",
+        b"tokelivo: none of list, fields, positions, season, join, watch and moment is asked for\n",
     );
 }
 
-// By the program's words: `list FILE`, `fields FILE NAME..`, `season FILE..`, `join SHEET..`, `watch FILE` or
-// `moment FILE HHMMSS..`. In front of them may stand a descriptor, as 3: where nothing went wrong, 0 is written there.
+// By the program's words: `list FILE`, `fields FILE NAME..`, `positions FILE`, `season FILE..`, `join SHEET..`,
+// `watch FILE` or `moment FILE HHMMSS..`. In front of them may stand a descriptor, as 3: where nothing went wrong, 0 is
+// written there.
 pub fn run_words() {
     let mut word = [0u8; 8];
     let n = os::arg(1, &mut word);

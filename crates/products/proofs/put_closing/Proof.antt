@@ -9,6 +9,7 @@ unfolding closing
 put-closing-spec =
     tie.close
     (tie.spec
-    (search needs) (search needs) (search needs) (search needs)
+    (search needs) (search needs) (search needs) (search needs) (search needs)
     (λ c. let put = c .before .before in rw (put .before .before .enum-told .given .1) (put .put .ensures))
-    (λ c. rw (c .enum-told2 .given .1) (wrote-nothing _ _ (omega arith) (omega arith))))
+    (λ c. rw (c .enum-told2 .given .1) (wrote-nothing _ _ (omega arith) (omega arith)))
+    (λ c. rw (c .enum-told3 .given .1) (wrote-nothing _ _ (omega arith) (omega arith))))

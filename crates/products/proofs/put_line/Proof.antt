@@ -8,7 +8,9 @@ unfolding productLine
 put-line-spec =
     tie.close
     (tie.spec
-    (search needs) (search needs) (search needs) (search needs) (search needs)
+    (search needs) (search needs) (search needs) (search needs) (search needs) (search needs) (search needs)
     (λ c. let put = c .before .before in rw (put .before .before .enum-told .given .1) (put .put-line .ensures))
     (search needs)
-    (λ c. let put = c .before .before in rw (put .before .before .enum-told2 .given .1) (put .put-line2 .ensures)))
+    (λ c. let put = c .before .before in rw (put .before .before .enum-told2 .given .1) (put .put-line2 .ensures))
+    (search needs)
+    (λ c. let put = c .before .before in rw (put .before .before .enum-told3 .given .1) (put .put-line3 .ensures)))
