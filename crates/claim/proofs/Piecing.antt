@@ -42,7 +42,7 @@ claim-alone c x y l a = rw (l, a)
 
 -- ---- pieces
 
-on-taken : (c : Sofar) (s : List ℕ) → c .lines + length s ≤ largest →
+pub on-taken : (c : Sofar) (s : List ℕ) → c .lines + length s ≤ largest →
     claimOn c s ≡ over claimStep c (readings reader s)
 unfolding claimOn
 on-taken c s h = sym (first c (yes≤ h) refl)
