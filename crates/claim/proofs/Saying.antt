@@ -1,19 +1,22 @@
 -- What the verdict says.
 use Rattle.text.specs.Prelude.{ℕ, zero, suc, _+_, _≤_, _<_, max, _≡_, Bool, true, false, List, [], _∷_, _++_, length}
-use Rattle.text.specs.Prelude.{Res, take, pick, _≤?_, _=?_}
+use Rattle.text.specs.Prelude.{Res, _-_, take, drop, pick, _≤?_, _=?_, _∨?_}
 use Rattle.text.proofs.Prelude.{arith, refl, sym, ap, _∙_, first, second, take-all, no=, is≤, isnt≤, and, by-test}
 use Rattle.text.proofs.Prelude.{never}
 use native.Mathlib.Nat.{add-zero}
+use lib.Seq.{take-add}
 use Rattle.records.specs.declared.Record.{Record}
 use Rattle.log.specs.Fold.{over}
 use Rattle.walk.specs.Readings.{Line-read}
-use Rattle.claim.specs.Rules.{holds}
+use Rattle.claim.specs.Rules.{isNone, holds, breaks}
 use Rattle.claim.specs.Claim.{allHold, firstBroken, leastNot, failingLine, claimOf}
 use Rattle.claim.specs.Step.{isYes, fresh, lineVerdict, passed, failed, judged, claimStep, verdictAtEnd}
-use Rattle.claim.specs.Laws.{orderOf, First, Says}
+use Rattle.claim.specs.Laws.{orderOf, NamesFirst, Says}
 use Rattle.claim.specs.declared.{verdict.Rule.Rule, verdict.Verdict.Verdict, Sofar.Sofar}
 use Rattle.claim.proofs.Deciding.{holds-all, all-holds, decides}
 use Rattle.claim.proofs.Stepping.{no-stays-over}
+use Rattle.claim.proofs.Tests.{∨?-true, broken-here}
+use Rattle.claim.proofs.Lines.{one-more-line}
 
 -- ---- the least number for which a test fails
 
@@ -100,6 +103,27 @@ module _ (xs : List Line-read) where
       (λ b. rw (a, b) b))
       (λ a. rw a a)
 
+-- ---- the line that breaks it
+
+-- the first n + 1 lines are the first n and the next
+take-next : (xs : List Line-read) (n : ℕ) (x : Line-read) (later : List Line-read) → drop n xs ≡ x ∷ later →
+    take (n + 1) xs ≡ take n xs ++ (x ∷ [])
+take-next xs n x later e = take-add n 1 xs ∙ rw e
+
+-- so far a rule holds that holds of all that are fewer, from 1 on
+so-far : (xs : List Line-read) (n : ℕ) (r : Rule) → (1 ≤ n → holds r (take n xs) ≡ true) →
+    (isNone (take n xs) ∨? holds r (take n xs)) ≡ true
+unfolding isNone _=?_ _∨?_ pick
+so-far xs zero r h = refl
+so-far xs (suc n) r h = rw (h (omega arith)) (∨?-true (isNone (take (suc n) xs)))
+
+breaks-there : (xs : List Line-read) (n : ℕ) (r : Rule) → (1 ≤ n → holds r (take n xs) ≡ true) →
+    holds r (take (n + 1) xs) ≡ false → (x : Line-read) (later : List Line-read) → drop n xs ≡ x ∷ later →
+    breaks r (take n xs) x ≡ true
+breaks-there xs n r h f x later e =
+    let w : holds r (take n xs ++ (x ∷ [])) ≡ false = rw (take-next xs n x later e) at f in
+    broken-here (so-far xs n r h) (one-more-line .line r (take n xs) x) ∙ rw w
+
 -- ---- the verdict
 
 -- the line that a no names, and that one fails there
@@ -131,7 +155,7 @@ unfolding isYes
 says-no xs k r e =
     by-test (allHold xs) (λ h. let z : true ≡ false = ap isYes (yes-is xs h ∙ e) in never refl z) (λ h. h)
 
-names-first : (xs : List Line-read) (k : ℕ) (r : Rule) → claimOf xs ≡ Verdict.No k r → First xs k r
+names-first : (xs : List Line-read) (k : ℕ) (r : Rule) → claimOf xs ≡ Verdict.No k r → NamesFirst xs k r
 unfolding failingLine
 names-first xs k r e =
     let n = says-no xs k r e in
@@ -140,13 +164,19 @@ names-first xs k r e =
     let rule : r ≡ firstBroken (take (failingLine xs) xs) = cc in
     let fails = failing xs n in
     let t : ℕ → Bool = λ k. allHold (take k xs) in
+    let from-one = least-from t 1 (length xs) in
+    let next : failingLine xs - 1 + 1 ≡ failingLine xs = omega (arith, from-one) in
+    let broken = broken-fails (take (failingLine xs) xs) (fails .1) in
     rw (line, rule) (record {
-      from-one = least-from t 1 (length xs);
+      from-one = from-one;
       inside = fails .0;
       earlier-lines = λ j a b q. all-holds (take j xs) (least-before t 1 (length xs) j a b) q;
-      fails = broken-fails (take (failingLine xs) xs) (fails .1);
+      fails = broken;
       earlier-rules = λ q h. by-test (holds q (take (failingLine xs) xs)) (λ a. a)
           (λ a. let f : ⊥ = omega (arith, broken-low (take (failingLine xs) xs) q a) in absurd f);
+      at-line = breaks-there xs (failingLine xs - 1) _
+          (λ a. all-holds _ (least-before t 1 (length xs) (failingLine xs - 1) a (omega (arith, from-one))) _)
+          (rw next broken);
     })
 
 -- ---- what follows

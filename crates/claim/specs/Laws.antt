@@ -1,6 +1,6 @@
 -- What the verdict says, and that the walk line by line, whatever the pieces of a log, decides it.
-use Rattle.text.specs.Prelude.{ℕ, _+_, _≤_, _<_, max, _≡_, true, false, not, List, [], _∷_, _++_, length, take, largest}
-use Rattle.text.specs.Prelude.{_∧?_, _∨?_}
+use Rattle.text.specs.Prelude.{ℕ, _+_, _-_, _≤_, _<_, max, _≡_, true, false, not, List, [], _∷_, _++_, length, take}
+use Rattle.text.specs.Prelude.{drop, _∧?_, _∨?_, largest}
 use Rattle.log.specs.Line.{hasLf}
 use Rattle.log.specs.Log.{closed, readings}
 use Rattle.log.specs.Fold.{over}
@@ -26,19 +26,21 @@ pub record OneMore : Type 0 where
       holds r (before ++ (x ∷ [])) ≡ ((isNone before ∨? holds r before) ∧? not (breaks r before x))
 
 -- A no with that line and that rule: all rules hold of fewer lines, from 1 on; of so many the rule does not; and those
--- before it in the order do.
-pub record First (xs : List Line-read) (k : ℕ) (r : Rule) : Type 0 where
+-- before it in the order do. So the line that is named breaks the rule.
+pub record NamesFirst (xs : List Line-read) (k : ℕ) (r : Rule) : Type 0 where
   pub from-one : 1 ≤ k
   pub inside : k ≤ max 1 (length xs)
   pub earlier-lines : (j : ℕ) → 1 ≤ j → j < k → (q : Rule) → holds q (take j xs) ≡ true
   pub fails : holds r (take k xs) ≡ false
   pub earlier-rules : (q : Rule) → orderOf q < orderOf r → holds q (take k xs) ≡ true
+  pub at-line : (x : Line-read) (later : List Line-read) → drop (k - 1) xs ≡ x ∷ later →
+      breaks r (take (k - 1) xs) x ≡ true
 
 -- The verdict is yes exactly when all hold, and a no names the first line at which one fails, and the first rule.
 pub record Says : Type 0 where
   pub yes : (xs : List Line-read) → claimOf xs ≡ Verdict.Yes → (r : Rule) → holds r xs ≡ true
   pub all : (xs : List Line-read) → ((r : Rule) → holds r xs ≡ true) → claimOf xs ≡ Verdict.Yes
-  pub no : (xs : List Line-read) (k : ℕ) (r : Rule) → claimOf xs ≡ Verdict.No k r → First xs k r
+  pub no : (xs : List Line-read) (k : ℕ) (r : Rule) → claimOf xs ≡ Verdict.No k r → NamesFirst xs k r
   -- What follows a line that failed does not matter.
   pub stays : (xs ys : List Line-read) (k : ℕ) (r : Rule) → 1 ≤ length xs → claimOf xs ≡ Verdict.No k r →
       claimOf (xs ++ ys) ≡ Verdict.No k r
@@ -46,13 +48,6 @@ pub record Says : Type 0 where
 -- The walk line by line decides it.
 pub record Decides : Type 0 where
   pub decides : (xs : List Line-read) → verdictAtEnd (over claimStep fresh xs) ≡ claimOf xs
-
--- A line of which 78 bytes have come and no end fails, whatever follows: its text has 77 of them at least.
-pub record LongFront : Type 0 where
-  pub fails : (c : Sofar) (front : List ℕ) → hasLf front ≡ false → 78 ≤ length front →
-      isYes (over claimStep c (readings reader front) .verdict) ≡ false
-  pub stays : (c : Sofar) (front rest : List ℕ) → hasLf front ≡ false → 78 ≤ length front →
-      over claimStep c (readings reader (front ++ rest)) ≡ over claimStep c (readings reader front)
 
 -- So it does for a log in pieces.
 pub record InPieces : Type 0 where
@@ -62,3 +57,10 @@ pub record InPieces : Type 0 where
   -- A whole log, from the start.
   pub whole : (log : List ℕ) → length log ≤ largest →
       verdictAtEnd (claimOn fresh log) ≡ claimOf (readings reader log)
+
+-- A line of which 78 bytes have come and no end fails, whatever follows: its text has 77 of them at least.
+pub record LongFront : Type 0 where
+  pub fails : (c : Sofar) (front : List ℕ) → hasLf front ≡ false → 78 ≤ length front →
+      isYes (over claimStep c (readings reader front) .verdict) ≡ false
+  pub stays : (c : Sofar) (front rest : List ℕ) → hasLf front ≡ false → 78 ≤ length front →
+      over claimStep c (readings reader (front ++ rest)) ≡ over claimStep c (readings reader front)
