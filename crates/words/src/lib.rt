@@ -1,6 +1,7 @@
 // The desk's program, by the words that it is started with.
 ghost use Prim.Native.Nat.{_≤_};
 use block_read::starts_with;
+use claims::run_claim;
 use files::output::write_all;
 use joins::run_join;
 use listings::run_fields;
@@ -54,6 +55,10 @@ fn run_on_one(word: &[u8], at: usize, told: i32) -> bool {
         run_moment(at, told);
         return true;
     }
+    if is_word(word, b"claim") {
+        run_claim(at, told);
+        return true;
+    }
     false
 }
 
@@ -84,13 +89,13 @@ fn run_from(at: usize, told: i32)
     }
     write_all(
         2,
-        b"tokelivo: none of list, fields, positions, season, join, watch and moment is asked for\n",
+        b"tokelivo: none of list, fields, positions, season, join, watch, moment and claim is asked for\n",
     );
 }
 
 // By the program's words: `list FILE`, `fields FILE NAME..`, `positions FILE`, `season FILE..`, `join SHEET..`,
-// `watch FILE` or `moment FILE HHMMSS..`. In front of them may stand a descriptor, as 3: where nothing went wrong, 0 is
-// written there.
+// `watch FILE`, `moment FILE HHMMSS..` or `claim FILE`. In front of them may stand a descriptor, as 3: where nothing
+// went wrong, 0 is written there, and 1 where a claim's verdict is no.
 pub fn run_words() {
     let mut word = [0u8; 8];
     let n = os::arg(1, &mut word);
