@@ -29,11 +29,11 @@ unfolding readingOf
 viewed (ok r) = refl
 viewed (no n) = refl
 
-abbrev seen : Line-read → TaskLine
+abbrev pub seen : Line-read → TaskLine
 seen x = lineOf (answerKind (x .answer)) (x .line)
 
 -- a task looks at no line's number, at no place and at no table
-alike : (n n′ p p′ : ℕ) (t t′ : Tables) (cs : List (List ℕ)) →
+pub alike : (n n′ p p′ : ℕ) (t t′ : Tables) (cs : List (List ℕ)) →
     map seen (readFrom reader n p t cs) ≡ map seen (readFrom reader n′ p′ t′ cs)
 unfolding readFrom
 alike n n′ p p′ t t′ [] = refl
