@@ -107,8 +107,10 @@ determined = record {
       (λ r. rw (total-undone (r .total)));
   watch = tells-as watchMade (λ w. rw (report-undone (w .report)));
   shows = shows-one;
+  shows-one = λ p q. (p .bytes ∙ sym (q .bytes), p .lies ∙ sym (q .lies));
   wrote = wrote-one;
   prints = prints-one;
+  prints-sheet = λ p q. (p .answer ∙ sym (q .answer), p .left ∙ sym (q .left));
   outs = λ p q. let e = sym p ∙ q in (ap (λ (o : Out). o .sum) e, ap (λ (o : Out). o .bytes) e);
   took = λ p q.
       let n = p .taken ∙ sym (q .taken) in (

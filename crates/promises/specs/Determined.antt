@@ -1,7 +1,8 @@
--- Answers are determined. Every public function states its answer in one of seven ways: r ≡ a definition; a view of r ≡
--- a definition; Shows, of a slice; Wrote, of a piece; Prints, of a printer; the answer and the bytes it leaves, as one
--- value ≡ a definition; Took, of lines taken into lent bytes. In each way, any two permitted answers are equal, and so
--- are the bytes that they leave. (Of the first there is nothing to prove.)
+-- Answers are determined. Every public function states its answer in one of nine ways: r ≡ a definition; a view of r ≡
+-- a definition; Shows, of a slice; ShowsOne, of a slice of one of two; Wrote, of a piece; Prints, of a printer;
+-- PrintsSheet, of the task sheet's; the answer and the bytes it leaves, as one value ≡ a definition; Took, of lines
+-- taken into lent bytes. In each way, any two permitted answers are equal, and so are the bytes that they leave. (Of
+-- the first there is nothing to prove.)
 use Rattle.text.specs.Prelude.{ℕ, _≡_, List, RefT, now, Res}
 use Rattle.text.specs.Number.{u8Res, u16Res, i8Res, i16Res}
 use Rattle.part.specs.Part.{foundRes, Shows}
@@ -39,6 +40,9 @@ use Rattle.watch_text.specs.Feed.{view}
 use Rattle.log.specs.Log.{Reader, LineRead}
 use Rattle.log.specs.Fold.{Carried}
 use Rattle.log.specs.Taking.{Took}
+use Rattle.caption.specs.Caption.{Where, ShowsOne}
+use Rattle.task.specs.Sheet.{Sheet, PrintsSheet}
+use Rattle.task.specs.declared.TaskPrinted.{TaskPrinted}
 use Rattle.bench_loops.specs.Timed.{Out}
 
 -- Two answers with one view are equal.
@@ -87,9 +91,13 @@ pub record Determined : Type 1 where
   pub watch : Tells view
   pub shows : {line r₁ r₂ : RefT (List ℕ)} {p : Part} → Shows line p r₁ → Shows line p r₂ →
       (now r₁ ≡ now r₂) × (r₁ .ptr ≡ r₂ .ptr)
+  pub shows-one : {line labels r₁ r₂ : RefT (List ℕ)} {w : Where} → ShowsOne line labels w r₁ →
+      ShowsOne line labels w r₂ → (now r₁ ≡ now r₂) × (r₁ .ptr ≡ r₂ .ptr)
   pub wrote : {b t b₁ b₂ : List ℕ} {at r₁ r₂ : ℕ} → Wrote b at t b₁ r₁ → Wrote b at t b₂ r₂ → (r₁ ≡ r₂) × (b₁ ≡ b₂)
   pub prints : {m : Res (List ℕ)} {b b₁ b₂ : List ℕ} {r₁ r₂ : Printed} → Prints m b b₁ r₁ → Prints m b b₂ r₂ →
       (r₁ ≡ r₂) × (b₁ ≡ b₂)
+  pub prints-sheet : {m : Sheet} {b b₁ b₂ : List ℕ} {r₁ r₂ : TaskPrinted} → PrintsSheet m b b₁ r₁ →
+      PrintsSheet m b b₂ r₂ → (r₁ ≡ r₂) × (b₁ ≡ b₂)
   pub outs : {o : Out} {r₁ r₂ : ℕ} {b₁ b₂ : List ℕ} → o ≡ record { sum = r₁; bytes = b₁ } →
       o ≡ record { sum = r₂; bytes = b₂ } →
       (r₁ ≡ r₂) × (b₁ ≡ b₂)

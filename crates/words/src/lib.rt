@@ -9,6 +9,7 @@ use listings::run_list;
 use listings::run_positions;
 use moments::run_moment;
 use seasons::run_season;
+use tasks::run_task;
 use watches::run_watch;
 
 // The word is that name.
@@ -72,6 +73,10 @@ fn run_on_many(word: &[u8], at: usize, told: i32) -> bool {
         run_join(at, told);
         return true;
     }
+    if is_word(word, b"task") {
+        run_task(at, told);
+        return true;
+    }
     false
 }
 
@@ -89,13 +94,13 @@ fn run_from(at: usize, told: i32)
     }
     write_all(
         2,
-        b"tokelivo: none of list, fields, positions, season, join, watch, moment and claim is asked for\n",
+        b"tokelivo: none of list, fields, positions, season, join, watch, moment, claim and task is asked for\n",
     );
 }
 
 // By the program's words: `list FILE`, `fields FILE NAME..`, `positions FILE`, `season FILE..`, `join SHEET..`,
-// `watch FILE`, `moment FILE HHMMSS..` or `claim FILE`. In front of them may stand a descriptor, as 3: where nothing
-// went wrong, 0 is written there, and 1 where a claim's verdict is no.
+// `watch FILE`, `moment FILE HHMMSS..`, `claim FILE` or `task FILE LABELS`. In front of them may stand a descriptor, as
+// 3: where nothing went wrong, 0 is written there, and 1 where a claim's verdict is no.
 pub fn run_words() {
     let mut word = [0u8; 8];
     let n = os::arg(1, &mut word);

@@ -1,0 +1,4 @@
+pub mod Turns
+pub mod Putting
+pub mod Printing
+pub mod Later
