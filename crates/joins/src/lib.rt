@@ -130,8 +130,8 @@ fn after_words(first: usize, words: usize, win: &mut [u8]) -> Halves {
     halves
 }
 
-// The joined block of the sheets that the program's words name, from the one at `first` on, and where nothing went wrong
-// 0 on the descriptor `told`. Where a sheet is none there is no block.
+// The joined block of the sheets that the program's words name, from the one at `first` on, and where nothing went
+// wrong 0 on the descriptor `told`. Where a sheet is none there is no block.
 pub fn run_join(first: usize, told: i32) {
     let words = os::arg_count();
     let mut win = window();

@@ -1,5 +1,5 @@
-// The program `positions`: the finer position of each accepted fix of the log that its word names, or of that of standard
-// input.
+// The program `positions`: the finer position of each accepted fix of the log that its word names, or of that of
+// standard input.
 use listings::run_positions;
 
 fn main() {

@@ -20,7 +20,8 @@ pub enum Product {
     Positions,
 }
 
-// What goes from piece to piece: the tables in force, the place of the next line, and the figures over the lines before.
+// What goes from piece to piece: the tables in force, the place of the next line, and the figures over the lines
+// before.
 pub struct Carried {
     pub held: Tables,
     pub at: Cursor,

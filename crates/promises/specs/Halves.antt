@@ -13,8 +13,8 @@ use Rattle.sheet_read.specs.Sheet.{whole, readSheet}
 use Rattle.sheet_read.specs.Laws.{logTexts}
 
 pub record Halves : Type 1 where
-  -- Joining is associative: where the first two and then the third fit, so do the last two and then the first, and it is
-  -- the same total. So of all totals, those built by hand too.
+  -- Joining is associative: where the first two and then the third fit, so do the last two and then the first, and it
+  -- is the same total. So of all totals, those built by hand too.
   pub associative : (a b c t : Totals) → leftFirst a b c ≡ given t → rightFirst a b c ≡ given t
   -- Where the heights of the second and third stand in their own logs, as those of every total of logs do, one side is
   -- refused exactly where the other is.
@@ -28,8 +28,8 @@ pub record Halves : Type 1 where
   -- The empty total changes nothing on either side.
   pub empty-left : (t : Totals) → Fitting t → joinRes noLogs t ≡ given t
   pub empty-right : (t : Totals) → Fitting t → joinRes t noLogs ≡ given t
-  -- The joined total of two lists of logs is the total of the one list followed by the other; 21 exactly where that does
-  -- not fit.
+  -- The joined total of two lists of logs is the total of the one list followed by the other; 21 exactly where that
+  -- does not fit.
   pub followed : {T : Type 0} (a b : Logs T) →
       joinRes (totalOf a) (totalOf b) ≡ pick (totalFits (totalOf (a ++ b))) (given (totalOf (a ++ b))) (refused 21)
   -- Reading what was printed gives the total, and nothing else is read as one.

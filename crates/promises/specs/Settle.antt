@@ -76,8 +76,8 @@ declarationAgain s r = record {
   «task_name» = r .«task_name»;
 }
 
--- What the printed text of the line s, which was read as r, is read as: of every other kind the same record, its texts at
--- the same places.
+-- What the printed text of the line s, which was read as r, is read as: of every other kind the same record, its texts
+-- at the same places.
 unfoldable pub readAgain : List ℕ → Record → Record
 readAgain s (Record.A r) = Record.A (recorderAgain s r)
 readAgain s (Record.CDeclaration r) = Record.CDeclaration (declarationAgain s r)

@@ -33,8 +33,8 @@ pub record Walks : Type 0 where
   -- The end of a walk is done, and is where any number of steps leads that is at least that of the log's bytes.
   pub end-done : (log : List ℕ) (w : Walk) → isDone log (atEnd log w) ≡ true
   pub end-reached : (log : List ℕ) (w : Walk) (k : ℕ) → length log ≤ k → afterSteps k log w ≡ atEnd log w
-  -- What the screen holds at line k + 1 is the walk's report there, and what it says was raised is what stands higher in
-  -- that than in the report a step before.
+  -- What the screen holds at line k + 1 is the walk's report there, and what it says was raised is what stands higher
+  -- in that than in the report a step before.
   pub watch-rises : (log : List ℕ) → length log ≤ largest → (k : ℕ) (x : Watch-read) (later : List Watch-read) →
       drop k (readings watcher log) ≡ x ∷ later →
       x .held ≡ risen (figuresIn (afterSteps k log fresh .report)) (figuresIn (afterSteps (k + 1) log fresh .report))

@@ -25,8 +25,8 @@ readingOf (no n) = Refused n
 unfoldable pub nextIn : List ℕ → Walk → Next
 nextIn s w = pick (isFull (figuresIn (w .report))) Next.Done (nextOf s (w .at))
 
--- A step to the line that comes next: I and J lines set or spoil their tables, and the report takes every line, accepted
--- or not. Done changes nothing.
+-- A step to the line that comes next: I and J lines set or spoil their tables, and the report takes every line,
+-- accepted or not. Done changes nothing.
 unfoldable pub stepTo : List ℕ → Walk → Next → Step
 stepTo s w (Next.Line cut after) = record {
   taken = Line (cut .line) (readingOf (readLine (bytesOf (cut .line) s)));
