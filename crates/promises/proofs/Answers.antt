@@ -106,6 +106,8 @@ determined = record {
       tells-as (λ (b : Beside). record { total = totalMade (b .total); verdict = b .verdict })
       (λ r. rw (total-undone (r .total)));
   watch = tells-as watchMade (λ w. rw (report-undone (w .report)));
+  ahead = λ p q. p .cut ∙ sym (q .cut);
+  sees = λ p q. p .seen ∙ sym (q .seen);
   shows = shows-one;
   shows-one = λ p q. (p .bytes ∙ sym (q .bytes), p .lies ∙ sym (q .lies));
   wrote = wrote-one;

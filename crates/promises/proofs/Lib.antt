@@ -33,3 +33,5 @@ pub mod SettlesTimed
 pub mod SettlesLine
 pub mod SettlesLate
 pub mod Moments
+pub mod Captions
+pub mod LaterLines

@@ -1,8 +1,8 @@
--- Answers are determined. Every public function states its answer in one of nine ways: r ≡ a definition; a view of r ≡
--- a definition; Shows, of a slice; ShowsOne, of a slice of one of two; Wrote, of a piece; Prints, of a printer;
--- PrintsSheet, of the task sheet's; the answer and the bytes it leaves, as one value ≡ a definition; Took, of lines
--- taken into lent bytes. In each way, any two permitted answers are equal, and so are the bytes that they leave. (Of
--- the first there is nothing to prove.)
+-- Answers are determined. Every public function states its answer in one of eleven ways: r ≡ a definition; a view of r
+-- ≡ a definition; Ahead, of a line that is cut; Sees, of one that a task sees; Shows, of a slice; ShowsOne, of a slice
+-- of one of two; Wrote, of a piece; Prints, of a printer; PrintsSheet, of the task sheet's; the answer and the bytes it
+-- leaves, as one value ≡ a definition; Took, of lines taken into lent bytes. In each way, any two permitted answers are
+-- equal, and so are the bytes that they leave. (Of the first there is nothing to prove.)
 use Rattle.text.specs.Prelude.{ℕ, _≡_, List, RefT, now, Res}
 use Rattle.text.specs.Number.{u8Res, u16Res, i8Res, i16Res}
 use Rattle.part.specs.Part.{foundRes, Shows}
@@ -40,7 +40,11 @@ use Rattle.watch_text.specs.Feed.{view}
 use Rattle.log.specs.Log.{Reader, LineRead}
 use Rattle.log.specs.Fold.{Carried}
 use Rattle.log.specs.Taking.{Took}
+use Rattle.log.specs.declared.Cut.{Cut}
+use Rattle.ahead.specs.Ahead.{Ahead}
 use Rattle.caption.specs.Caption.{Where, ShowsOne}
+use Rattle.task_line.specs.Lines.{Sees}
+use Rattle.task_line.specs.declared.Seen.{Seen}
 use Rattle.task.specs.Sheet.{Sheet, PrintsSheet}
 use Rattle.task.specs.declared.TaskPrinted.{TaskPrinted}
 use Rattle.bench_loops.specs.Timed.{Out}
@@ -89,6 +93,8 @@ pub record Determined : Type 1 where
   pub block : Tells blockRead
   pub sheet : Tells sheetIn
   pub watch : Tells view
+  pub ahead : {s : List ℕ} {at : ℕ} {r₁ r₂ : Cut} → Ahead s at r₁ → Ahead s at r₂ → r₁ ≡ r₂
+  pub sees : {s : List ℕ} {at : ℕ} {r₁ r₂ : Seen} → Sees s at r₁ → Sees s at r₂ → r₁ ≡ r₂
   pub shows : {line r₁ r₂ : RefT (List ℕ)} {p : Part} → Shows line p r₁ → Shows line p r₂ →
       (now r₁ ≡ now r₂) × (r₁ .ptr ≡ r₂ .ptr)
   pub shows-one : {line labels r₁ r₂ : RefT (List ℕ)} {w : Where} → ShowsOne line labels w r₁ →

@@ -10,3 +10,4 @@ pub mod Place
 pub mod Halves
 pub mod Settle
 pub mod Moments
+pub mod TaskSheets

@@ -1,4 +1,2 @@
 pub mod Turns
-pub mod Putting
 pub mod Printing
-pub mod Later

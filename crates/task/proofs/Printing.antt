@@ -1,10 +1,10 @@
 -- A sheet printed: three laws for its printers, and what a declaration's count tells of it.
-use Rattle.text.specs.Prelude.{ℕ, _+_, _≤_, _<_, _≡_, List, length, ℤ, pos, negsuc, pick}
-use Rattle.text.proofs.Prelude.{arith, refl, sym, yes≤, no≤}
+use Rattle.text.specs.Prelude.{ℕ, _+_, _≤_, _<_, _≡_, List, _++_, length, drop, ℤ, pos, negsuc, pick}
+use Rattle.text.proofs.Prelude.{arith, refl, sym, _∙_, sets, yes≤, no≤}
+use native.Mathlib.Nat.{zero-add}
+use lib.Seq.{sets-eq}
 use Rattle.put.specs.Put.{Wrote}
-use Rattle.print.specs.Print as print
-use Rattle.print.proofs.Printing as print-laws
-use Rattle.task.specs.Lines.{TaskLine}
+use Rattle.task_line.specs.Lines.{TaskLine}
 use Rattle.task.specs.Sheet.{Sheet, sheet, refused, declared, sheetFrom, sheetAfter, sizeOf, answerTo, leftBy}
 use Rattle.task.specs.Sheet.{PrintsSheet}
 use Rattle.task.specs.declared.{TaskRefusal.TaskRefusal, TaskPrinted.TaskPrinted, points.Size.Size}
@@ -25,11 +25,12 @@ no-room {b} {t} o d h =
 -- there is, and t was written from the start on
 pub written : {e e′ b b′ t : List ℕ} {m : Sheet} {n r : ℕ} → sheet t ≡ m → Wrote e 0 t e′ n → n ≤ length b →
     Wrote b 0 t b′ r → PrintsSheet m b b′ (TaskPrinted.Written r)
-unfolding answerTo leftBy print.leftBy pick
+unfolding answerTo leftBy pick
 written {b} {t} {r} o d h w =
     let k : length t ≤ length b = omega (arith, d .next, w .short) in
     let z : r ≡ length t = omega (arith, w .next, w .short) in
-    rw (sym o) (record { answer = rw (yes≤ k, z); left = print-laws.written refl d h w .left })
+    let s : sets b 0 t ≡ t ++ drop (length t) b = sets-eq t b 0 (omega arith) ∙ rw zero-add in
+    rw (sym o) (record { answer = rw (yes≤ k, z); left = rw (yes≤ k) (w .content ∙ s) })
 
 module _ (labels : List ℕ) (later : List TaskLine) where
   -- the count is negative

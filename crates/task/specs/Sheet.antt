@@ -1,9 +1,8 @@
 -- A task's sheet, what a printer of it answers, and what that leaves in the lent bytes.
-use Rattle.text.specs.Prelude.{ℕ, zero, suc, _+_, code, _≡_, Bool, true, false, List, [], _∷_, _++_, length, drop, pick}
-use Rattle.text.specs.Prelude.{ℤ, pos, negsuc, _≤?_, LF}
-use Rattle.position.specs.Position.{positionText}
-use Rattle.caption.specs.Caption.{captionText}
-use Rattle.task.specs.Lines.{TaskLine, declaration, point, other, taskLines}
+use Rattle.text.specs.Prelude.{ℕ, zero, suc, _+_, _≡_, Bool, true, false, List, [], _∷_, _++_, length, drop, pick}
+use Rattle.text.specs.Prelude.{ℤ, pos, negsuc, _≤?_}
+use Rattle.task_line.specs.Lines.{TaskLine, declaration, point, other, taskLines}
+use Rattle.task_text.specs.Points.{pointsText}
 use Rattle.task.specs.declared.{lines.Declared.Declared, points.Size.Size}
 use Rattle.task.specs.declared.{TaskRefusal.TaskRefusal, TaskPrinted.TaskPrinted}
 use Rattle.task.specs.declared.TaskRefusal.the-variants.{NoDeclaration, NegativeCount, Interrupted, NoRoom}
@@ -31,20 +30,7 @@ arePoints (suc k) (declaration count ∷ ls) = false
 arePoints (suc k) (point r line ∷ ls) = arePoints k ls
 arePoints (suc k) (other ∷ ls) = false
 
--- ---- its text
-
--- The n-th point: caption, space, position as printed, LF. (A line that is no point has no text.)
-unfoldable pub pointText : List ℕ → ℕ → TaskLine → List ℕ
-pointText labels n (declaration count) = []
-pointText labels n (point r line) =
-    captionText r n line labels ++ ((code " " ∷ []) ++ (positionText (r .position) ++ (LF ∷ [])))
-pointText labels n other = []
-
--- The first k lines as points, the first of them the n-th.
-unfoldable pub pointsText : List ℕ → ℕ → ℕ → List TaskLine → List ℕ
-pointsText labels n zero ls = []
-pointsText labels n (suc k) [] = []
-pointsText labels n (suc k) (l ∷ ls) = pointText labels n l ++ pointsText labels (n + 1) k ls
+-- ---- its sheet
 
 -- A sheet's text, or a refusal and no sheet.
 pub data Sheet : Type 0 where

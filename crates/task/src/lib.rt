@@ -4,14 +4,14 @@ mod points;
 
 ghost use mathlib.Core.Path.{_≡_};
 ghost use lib.ListN.{drop};
-ghost use Rattle.task.specs.Lines.{taskLines};
+ghost use Rattle.task_line.specs.Lines.{taskLines};
 ghost use Rattle.task.specs.Sheet.{sheetOf, sheetFrom, taskNumber, PrintsSheet};
 use crate::lines::Declared;
 use crate::lines::find_declaration;
 use crate::points::Size;
 use crate::points::are_points;
-use crate::points::put_points;
 use crate::points::size_of;
+use task_text::put_points;
 
 // Why there is no sheet: no declaration, a negative count, points that are too few or interrupted, or lent bytes that
 // are too short.

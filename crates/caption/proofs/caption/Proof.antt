@@ -1,5 +1,5 @@
 use Rattle.text.proofs.Prelude.{needs}
-use Rattle.caption.proofs.Lines.{nth-inside}
+use Rattle.caption.proofs.Lines.{inside-shown}
 use Rattle.caption.proofs.Names.{named, labelled}
 use Rattle.caption.proofs.caption.Statement.{statement}
 use Rattle.caption.proofs.caption.Tie as tie
@@ -10,7 +10,7 @@ own c = named _ _ _ (c .before .turnpoint-name .ensures) (search needs)
 label : tie.Need-returns-2
 label c =
     labelled _ _ _ (c .before .before .before .turnpoint-name .ensures) _ (search needs)
-    (rw (c .before .nth-line .ensures, nth-inside) at (c .view .ensures))
+    (rw (inside-shown _ _ (c .before .nth-line .ensures .1), c .before .nth-line .ensures .0) at (c .view .ensures))
 
 pub caption-spec : {M : Type 1} → statement M
 caption-spec = tie.close (tie.spec (search needs) own (search needs) (search needs) label)

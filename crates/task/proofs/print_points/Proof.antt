@@ -1,7 +1,8 @@
 use Rattle.text.specs.Prelude.{_≡_, drop, now}
 use Rattle.text.proofs.Prelude.{needs, refl, first, second, so-true, so-false}
-use Rattle.task.specs.Lines.{taskLines}
-use Rattle.task.specs.Sheet.{sheet, refused, pointsText, sheetFrom}
+use Rattle.task_line.specs.Lines.{taskLines}
+use Rattle.task.specs.Sheet.{sheet, refused, sheetFrom}
+use Rattle.task_text.specs.Points.{pointsText}
 use Rattle.task.specs.declared.TaskRefusal.{TaskRefusal}
 use Rattle.task.proofs.Printing.{none, no-room, written}
 use Rattle.task.proofs.print_points.Statement.{statement}

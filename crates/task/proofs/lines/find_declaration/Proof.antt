@@ -1,11 +1,11 @@
 use Rattle.text.specs.Prelude.{_-_, _≡_, length, drop}
-use Rattle.text.proofs.Prelude.{needs, refl, _∙_}
+use Rattle.text.proofs.Prelude.{needs, arith, refl, _∙_}
 use mir.Syntax.{w8}
 use mir.Val.{SFits}
 use mir.Facts.{toZ-ofZ}
-use Rattle.task.specs.Lines.{taskLines}
+use Rattle.task_line.specs.Lines.{taskLines}
 use Rattle.task.specs.Sheet.{firstDeclaration}
-use Rattle.task.proofs.Turns.{less-left, no-declaration, declared-here, declared-later}
+use Rattle.task.proofs.Turns.{no-declaration, declared-here, declared-later}
 use Rattle.task.proofs.lines.find_declaration.Statement.{statement}
 use Rattle.task.proofs.lines.find_declaration.Tie as tie
 
@@ -20,28 +20,24 @@ abbrev μ-loop : tie.MeasureT-loop
 here : tie.Need-returns Inv-loop μ-loop
 here c =
     let count = c .before in
-    let kind = count .before .before in
-    let got = kind .before in
-    let test = got .before in
-    let fits : SFits w8 (count .count .given .0 .0) = search needs in
+    let seen = count .before .before in
+    let test = seen .before in
+    let fits : SFits w8 (count .kind .given .0 .0) = search needs in
     rw (toZ-ofZ fits)
-    (declared-here _ _ (test .loop-test .taken) (got .read-at .ensures) (kind .kind-of .ensures)
-    (count .count .given .1)
+    (declared-here _ _ (seen .line-at .ensures) (test .loop-test .taken) (count .kind .given .1)
     ∙ test .before .loop .inv)
 
 less : tie.Need-loop-less Inv-loop μ-loop
 less c =
-    let got = c .before .before in
-    let test = got .before in
-    less-left _ _ (test .loop-test .taken) (got .read-at .ensures)
+    let seen = c .before in
+    let next = seen .line-at .ensures .next (seen .before .loop-test .taken) in
+    omega (arith, next .0, next .1)
 
 later : tie.Need-loop-again Inv-loop μ-loop
 later c =
-    let kind = c .before in
-    let got = kind .before in
-    let test = got .before in
-    declared-later _ _ (test .loop-test .taken) (got .read-at .ensures) (kind .kind-of .ensures) (c .match .keys2)
-    ∙ test .before .loop .inv
+    let seen = c .before in
+    let test = seen .before in
+    declared-later _ _ (seen .line-at .ensures) (test .loop-test .taken) (c .match .keys2) ∙ test .before .loop .inv
 
 past : tie.Need-returns-2 Inv-loop μ-loop
 past c = no-declaration _ _ (c .loop-test .left) ∙ c .before .loop .inv
@@ -49,4 +45,4 @@ past c = no-declaration _ _ (c .loop-test .left) ∙ c .before .loop .inv
 pub find-declaration-spec : {M : Type 1} → statement M
 find-declaration-spec =
     tie.close
-    (tie.spec Inv-loop μ-loop (λ c. refl) (search needs) (search needs) (search needs) here less later past)
+    (tie.spec Inv-loop μ-loop (λ c. refl) (search needs) (search needs) here less later past)

@@ -1,6 +1,6 @@
 use Rattle.text.specs.Prelude.{_≡_, drop}
 use Rattle.text.proofs.Prelude.{needs, arith, refl, _∙_}
-use Rattle.task.specs.Lines.{taskLines}
+use Rattle.task_line.specs.Lines.{taskLines}
 use Rattle.task.specs.Sheet.{arePoints}
 use Rattle.task.proofs.Turns.{all-points, too-few, no-point, a-point}
 use Rattle.task.proofs.points.are_points.Statement.{statement}
@@ -19,22 +19,17 @@ few c = let l = c .before .before .loop in too-few _ (l .place) (l .left) (omega
 
 other : tie.Need-returns-2 Inv-loop μ-loop
 other c =
-    let kind = c .before in
-    let got = kind .before in
-    let else = got .before in
+    let seen = c .before in
+    let else = seen .before in
     let l = else .before .before .loop in
-    no-point _ (l .place) (else .if1 .left) (got .read-at .ensures) (kind .kind-of .ensures) (l .left) (omega arith)
-    (c .match .keys2)
-    ∙ l .inv
+    no-point _ (l .place) (seen .line-at .ensures) (else .if1 .left) (l .left) (omega arith) (c .match .keys2) ∙ l .inv
 
 again : tie.Need-loop-again Inv-loop μ-loop
 again c =
-    let kind = c .before .before in
-    let got = kind .before in
-    let else = got .before in
+    let seen = c .before .before in
+    let else = seen .before in
     let l = else .before .before .loop in
-    a-point _ (l .place) (else .if1 .left) (got .read-at .ensures) (kind .kind-of .ensures) (l .left) (omega arith)
-    (c .enum-told .given .1)
+    a-point _ (l .place) (seen .line-at .ensures) (else .if1 .left) (l .left) (omega arith) (c .enum-told .given .1)
     ∙ l .inv
 
 all : tie.Need-returns-3 Inv-loop μ-loop
@@ -48,7 +43,7 @@ are-points-spec =
     μ-loop
     (λ c. refl)
     few
-    (search needs) (search needs) (search needs)
+    (search needs) (search needs)
     other
     (search needs) (search needs)
     again

@@ -8,11 +8,11 @@ use Rattle.log.proofs.Chunks.{chunks-append}
 use Rattle.held.specs.Tables.{tablesAfter}
 use Rattle.held.specs.declared.tables.Tables.{Tables}
 use Rattle.walk.specs.Readings.{reader}
-use Rattle.task.specs.Lines.{TaskLine, declaration, point, other, taskLines}
-use Rattle.task.specs.Sheet.{Task, missing, declared, firstDeclaration, arePoints, pointsText, sheet}
-use Rattle.task.specs.Sheet.{sheetFrom, sheetAfter, sheetOf}
-use Rattle.task.specs.Laws.{LaterLines}
-use Rattle.task.proofs.Turns.{seen, alike}
+use Rattle.task_line.specs.Lines.{TaskLine, declaration, point, other, taskLines}
+use Rattle.task_line.proofs.Seeing.{seen, alike}
+use Rattle.task_text.specs.Points.{pointsText}
+use Rattle.task.specs.Sheet.{Task, missing, declared, firstDeclaration, arePoints, sheet, sheetFrom, sheetAfter, sheetOf}
+use Rattle.promises.specs.TaskSheets.{LaterLines}
 
 -- whole lines and then others are seen one after the other
 seen-append : (n p : ℕ) (t : Tables) (cs ds : List (List ℕ)) →

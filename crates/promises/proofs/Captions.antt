@@ -1,16 +1,17 @@
 -- The caption's bytes are what the plain words say.
-use Rattle.text.specs.Prelude.{ℕ, zero, suc, _-_, _≤_, _≡_, true, false, List, [], _∷_, map, length, drop, pick, _≤?_}
+use Rattle.text.specs.Prelude.{ℕ, zero, suc, _-_, _≤_, _<_, _≡_, true, false, List, [], _∷_, map, length, drop, pick, _≤?_}
 use Rattle.text.specs.Prelude.{_=?_}
-use Rattle.text.proofs.Prelude.{arith, refl, sym, _∙_, drop-of-length-le, yes=, no=, is≤, isnt≤, by-test}
+use Rattle.text.proofs.Prelude.{arith, refl, sym, ap, _∙_, drop-of-length-le, yes=, no=, is≤, isnt≤, by-test}
 use Rattle.part.specs.Part.{bytesOf, findMaybe, maybeBytes, shown}
 use Rattle.log.specs.Line.{lineText, cutAt}
 use Rattle.log.specs.Log.{chunks}
 use Rattle.log.proofs.Chunks.{chunks-none}
-use Rattle.log.proofs.Ends.{lineText-first}
+use Rattle.ahead.specs.Ahead.{Ahead}
+use Rattle.ahead.proofs.Cutting.{ahead}
 use Rattle.caption.specs.Caption.{nowhere, nth, captionOf, captionText}
-use Rattle.caption.specs.Laws.{nthText, labelText, nameOrLabel, InWords}
-use Rattle.caption.proofs.Lines.{nth-past, nth-here, nth-next, first-cut}
+use Rattle.caption.proofs.Lines.{nth-past, nth-here, nth-next, here-inside, inside-shown}
 use Rattle.caption.proofs.Names.{shown-length}
+use Rattle.promises.specs.TaskSheets.{nthText, labelText, nameOrLabel, InWords}
 
 no-bytes : (s : List ℕ) → bytesOf nowhere s ≡ []
 unfolding bytesOf nowhere
@@ -21,9 +22,13 @@ unfolding nthText
 no-texts zero = refl
 no-texts (suc n) = refl
 
-cut-text : (s : List ℕ) (p : ℕ) → bytesOf (cutAt p s .line) s ≡ lineText (drop p s)
-unfolding bytesOf cutAt lineText
-cut-text s p = refl
+-- the line that is cut at a place has the text of the first that is left
+cut-text : (s : List ℕ) (p : ℕ) → p < length s →
+    bytesOf (nth p 1 (chunks (drop p s))) s ≡ nthText 1 (map lineText (chunks (drop p s)))
+unfolding nthText
+cut-text s p h =
+    let a = ahead s p refl in
+    rw (sym (nth-here a h), sym (ap (λ q. bytesOf q s) (inside-shown _ s (here-inside a h))), a .first h) (a .text h)
 
 text-step : (n : ℕ) (t : List ℕ) (ts : List (List ℕ)) → nthText (suc (suc n)) (t ∷ ts) ≡ nthText (suc n) ts
 unfolding nthText
@@ -41,18 +46,15 @@ nth-text : (s : List ℕ) (n p : ℕ) →
 unfolding nth nthText
 nth-text s zero p = no-bytes s
 nth-text s (suc zero) p =
-    by-test (length s ≤? p)
-    (λ e. past-text s 1 p (is≤ e))
-    (λ e.
-    let h = isnt≤ e in
-    rw (nth-here s p h, cut-text s p, first-cut s p h, lineText-first (drop p s)))
+    by-test (length s ≤? p) (λ e. past-text s 1 p (is≤ e)) (λ e. cut-text s p (isnt≤ e))
 nth-text s (suc (suc n)) p =
     by-test (length s ≤? p)
     (λ e. past-text s (suc (suc n)) p (is≤ e))
     (λ e.
     let h = isnt≤ e in
+    let a = ahead s p refl in
     let z : suc (suc n) - 1 ≡ suc n = omega arith in
-    rw (nth-next s p h (suc (suc n)) (omega arith), z, first-cut s p h) (nth-text s (suc n) (cutAt p s .next)))
+    rw (nth-next a h (suc (suc n)) (omega arith), z, a .first h) (nth-text s (suc n) (cutAt p s .next)))
 
 -- a name is shown with as many bytes as it has, so it is empty where its text is
 pub in-words : InWords

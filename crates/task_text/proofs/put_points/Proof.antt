@@ -1,10 +1,9 @@
 use Rattle.text.specs.Prelude.{_-_}
 use Rattle.text.proofs.Prelude.{needs, arith}
 use Rattle.put.proofs.Writing.{wrote-length}
-use Rattle.task.proofs.Turns.{all-texts, no-text}
-use Rattle.task.proofs.Putting.{Putting, at-start, next-put, all-put}
-use Rattle.task.proofs.points.put_points.Statement.{statement}
-use Rattle.task.proofs.points.put_points.Tie as tie
+use Rattle.task_text.proofs.Putting.{all-texts, no-text, Putting, at-start, next-put, all-put}
+use Rattle.task_text.proofs.put_points.Statement.{statement}
+use Rattle.task_text.proofs.put_points.Tie as tie
 
 abbrev Inv-loop : tie.InvT-loop
 Inv-loop buf₀ at log labels from points end₀ place₀ i₀ buf end place i =
@@ -20,12 +19,11 @@ again : tie.Need-loop-again Inv-loop μ-loop
 again c =
     let put = c .before .before in
     let view = put .before .before in
-    let kind = view .before in
-    let got = kind .before .before in
-    let else = got .before in
+    let seen = view .before .before in
+    let else = seen .before in
     let l = else .before .before .loop in
-    next-put (l .inv) (omega arith) (else .if1 .left) (got .read-at .ensures) (kind .kind-of .ensures)
-    (view .view .ensures .bytes) (put .put-point .ensures)
+    next-put (l .inv) (seen .line-at .ensures) (omega arith) (else .if1 .left) (view .view .ensures .bytes)
+    (put .put-point .ensures)
 
 all : tie.Need-returns-2 Inv-loop μ-loop
 all c = let l = c .before .loop in all-put (l .inv) (all-texts _ _ _ _ (omega arith))
@@ -39,7 +37,7 @@ put-points-spec =
     (λ c. at-start (omega arith) (omega arith))
     (λ c. wrote-length (c .before .before .loop .inv .wrote))
     few
-    (search needs) (search needs) (search needs) (search needs) (search needs) (search needs) (search needs)
+    (search needs) (search needs) (search needs) (search needs) (search needs) (search needs)
     again
     (λ c. wrote-length (c .before .loop .inv .wrote))
     all)

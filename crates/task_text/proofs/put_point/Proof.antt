@@ -1,11 +1,11 @@
 use Rattle.text.proofs.Prelude.{needs, arith}
 use Rattle.put.proofs.Writing.{then, wrote-nothing}
 use Rattle.caption.specs.Caption.{captionText}
-use Rattle.task.specs.Lines.{lineOf}
-use Rattle.task.specs.Sheet.{pointText}
-use Rattle.task.proofs.Turns.{no-point-text}
-use Rattle.task.proofs.points.put_point.Statement.{statement}
-use Rattle.task.proofs.points.put_point.Tie as tie
+use Rattle.task_line.specs.Lines.{lineOf}
+use Rattle.task_text.specs.Points.{pointText}
+use Rattle.task_text.proofs.Putting.{no-point-text}
+use Rattle.task_text.proofs.put_point.Statement.{statement}
+use Rattle.task_text.proofs.put_point.Tie as tie
 
 none : tie.Need-returns
 none c = rw (no-point-text _ _ _ _ (c .match .keys2)) (wrote-nothing _ _ (omega arith) (omega arith))

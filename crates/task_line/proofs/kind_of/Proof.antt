@@ -1,7 +1,7 @@
 use Rattle.text.proofs.Prelude.{needs}
-use Rattle.task.specs.Lines.{answerKind}
-use Rattle.task.proofs.lines.kind_of.Statement.{statement}
-use Rattle.task.proofs.lines.kind_of.Tie as tie
+use Rattle.task_line.specs.Lines.{answerKind}
+use Rattle.task_line.proofs.kind_of.Statement.{statement}
+use Rattle.task_line.proofs.kind_of.Tie as tie
 
 pub kind-of-spec : {M : Type 1} → statement M
 unfolding answerKind

@@ -1,10 +1,11 @@
--- The caption in plain words: the name's text, or the text of the n-th label.
-use Rattle.text.specs.Prelude.{ℕ, zero, suc, _≡_, List, [], _∷_, map, length, pick, _=?_}
+-- The task sheet: its captions in plain words, and the lines after the last point.
+use Rattle.text.specs.Prelude.{ℕ, zero, suc, _≡_, true, List, [], _∷_, _++_, map, length, pick, _=?_}
 use Rattle.part.specs.Part.{maybeBytes}
 use Rattle.c_turnpoint_record.specs.declared.CRecordTurnpoint.{CRecordTurnpoint}
 use Rattle.log.specs.Line.{lineText}
-use Rattle.log.specs.Log.{chunks}
+use Rattle.log.specs.Log.{chunks, closed}
 use Rattle.caption.specs.Caption.{captionText}
+use Rattle.task.specs.Sheet.{sheet, sheetOf}
 
 -- The n-th of some texts, from 1; empty where they are fewer.
 unfoldable pub nthText : ℕ → List (List ℕ) → List ℕ
@@ -26,3 +27,8 @@ nameOrLabel point n line labels =
 abbrev pub InWords : Type 0
 InWords = (point : CRecordTurnpoint) (n : ℕ) (line labels : List ℕ) →
     captionText point n line labels ≡ nameOrLabel point n line labels
+
+-- Lines after the last point do not matter: whatever stands behind whole lines that have a sheet, it is the same.
+abbrev pub LaterLines : Type 0
+LaterLines = (log more labels t : List ℕ) → closed log ≡ true →
+    sheetOf log labels ≡ sheet t → sheetOf (log ++ more) labels ≡ sheet t

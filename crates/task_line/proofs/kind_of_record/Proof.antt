@@ -1,8 +1,8 @@
 use Rattle.text.proofs.Prelude.{needs, ap}
-use Rattle.task.specs.Lines.{recordKind}
-use Rattle.task.specs.declared.lines.Kind.{Kind}
-use Rattle.task.proofs.lines.kind_of_record.Statement.{statement}
-use Rattle.task.proofs.lines.kind_of_record.Tie as tie
+use Rattle.task_line.specs.Lines.{recordKind}
+use Rattle.task_line.specs.declared.Kind.{Kind}
+use Rattle.task_line.proofs.kind_of_record.Statement.{statement}
+use Rattle.task_line.proofs.kind_of_record.Tie as tie
 
 pub kind-of-record-spec : {M : Type 1} → statement M
 unfolding recordKind
