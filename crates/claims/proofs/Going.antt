@@ -1,7 +1,7 @@
 -- A log judged from read to read.
-use Rattle.text.specs.Prelude.{ℕ, zero, suc, _+_, _≤_, _≡_, Bool, true, false, not, List, [], _∷_, _++_, length, take}
-use Rattle.text.specs.Prelude.{pick, _=?_, LF}
-use Rattle.text.proofs.Prelude.{arith, refl, sym, _∙_, append-assoc, take-all, second, no≤, is≤}
+use Rattle.text.specs.Prelude.{ℕ, zero, suc, _+_, _-_, _≤_, _≡_, Bool, true, false, not, List, [], _∷_, _++_, length}
+use Rattle.text.specs.Prelude.{take, pick, _=?_, LF}
+use Rattle.text.proofs.Prelude.{arith, refl, sym, _∙_, append-assoc, take-all, first, second, no≤, is≤}
 use Rattle.text.proofs.Prelude.{is=, by-test, never}
 use Rattle.log.specs.Line.{upTo, hasLf}
 use Rattle.log.specs.Log.{chunks, closed, readFrom, readings}
@@ -10,7 +10,7 @@ use Rattle.window.specs.Piece.{grow, wholeLength, pieceEnd}
 use Rattle.window.proofs.Wholes.{whole-le, whole-closed}
 use Rattle.files.specs.declared.{input.Filled.Filled, outcome.Outcome.Outcome}
 use Rattle.walk.specs.Readings.{reader}
-use Rattle.claim.specs.Step.{fresh, claimStep}
+use Rattle.claim.specs.Step.{fresh, claimStep, claimOn}
 use Rattle.claim.specs.declared.Sofar.{Sofar}
 use Rattle.claim.proofs.Deciding.{decides}
 use Rattle.claim.proofs.Stepping.{no-stays-over}
@@ -36,6 +36,13 @@ last-is-last c lines = by-test (hasRoom c lines) (λ e. rw e) (λ e. rw e)
 pub leaving-inside : (w : List ℕ) → leaving w ≤ length w
 unfolding leaving pieceEnd pick
 leaving-inside w = by-test (wholeLength w =? 0) (λ e. rw e (omega arith)) (λ e. rw e (whole-le w))
+
+-- what leaves a full window was taken, and the rest is kept
+pub front-taken : (c : Sofar) (w : List ℕ) (n : ℕ) {t : Sofar} {k : ℕ} → hasRoom c (take n w) ≡ true →
+    t ≡ claimOn c (take n w) → k ≡ length w - n →
+    _≡_ {A = Turn} (record { sofar = t; fill = k; more = true; outcome = Outcome.Done }) (takeFront c w n)
+unfolding takeFront
+front-taken c w n h e f = first _ h (rw (e, f))
 
 -- ---- a window without an LF
 

@@ -3,7 +3,7 @@ use Rattle.text.proofs.Prelude.{needs, refl, ap, first, second, so-true, so-fal
 use native.Mathlib.Nat.{sub-zero}
 use Rattle.claims.specs.Claims.{stopped, takeFront, fullTurn, windowAfter}
 use Rattle.claims.specs.declared.Turn.{Turn}
-use Rattle.claims.proofs.Going.{unmoved, leaving-inside}
+use Rattle.claims.proofs.Going.{unmoved, leaving-inside, front-taken}
 use Rattle.claims.proofs.drain.Statement.{statement}
 use Rattle.claims.proofs.drain.Tie as tie
 
@@ -23,7 +23,7 @@ no-room c =
     )
 
 kept : tie.Need-returns-2
-unfolding fullTurn takeFront windowAfter
+unfolding fullTurn windowAfter
 kept c =
     let keep = c .before .before in
     let on = keep .before .before in
@@ -33,7 +33,7 @@ kept c =
     let room = rw sub-zero at (asked .has-room .ensures) in
     let taken = rw sub-zero at (on .claim-on .ensures) in (
       rw (← left .leaving .ensures)
-          (first _ (so-true room (test .if1 .left)) (rw (taken, keep .keep-rest .ensures .0))),
+          (front-taken _ _ _ (so-true room (test .if1 .left)) taken (keep .keep-rest .ensures .0)),
       first _ refl (rw (← left .leaving .ensures) (keep .keep-rest .ensures .1)),
     )
 
