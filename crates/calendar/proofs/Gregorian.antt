@@ -1,6 +1,6 @@
 -- The days of a month are the Gregorian calendar's.
-use Rattle.text.specs.Prelude.{ℕ, zero, suc, _+_, _%_, _≤_, _<_, _≡_, Bool, true, false, not, List, [], _∷_, getD, length}
-use Rattle.text.specs.Prelude.{pick, _≤?_, _=?_, _∧?_, _∨?_}
+use Rattle.text.specs.Prelude.{ℕ, zero, suc, _+_, _%_, _≤_, _<_, _≡_, Bool, true, false, not, List, [], _∷_, getD}
+use Rattle.text.specs.Prelude.{length, pick, _≤?_, _=?_, _∧?_, _∨?_}
 use Rattle.text.proofs.Prelude.{arith, refl, sym, ap, _∙_, is≤, isnt≤, is=, yes=}
 use native.Mathlib.Nat.{le-of-suc-le-suc, not-suc-le-zero}
 use Rattle.calendar.specs.Days.{months, february, daysIn}
@@ -79,7 +79,13 @@ fits-at f (x ∷ xs) i (suc k) t h = fits-at f xs (suc i) k (t .1) (le-of-suc-le
 
 months-fit : (y : ℕ) → y ≤ 99 → Fits (λ m. gregorian m (fullYear y)) 1 (months (february y))
 unfolding months february gregorian pick _=?_ _∨?_
-months-fit y h = (refl, (ap (λ b. pick b 29 28) (sym (fourth y h)), (refl, (refl, (refl, (refl, (refl, (refl, (refl, (refl, (refl, (refl, tt))))))))))))
+months-fit y h = (
+  refl,
+  (
+    ap (λ b. pick b 29 28) (sym (fourth y h)),
+    (refl, (refl, (refl, (refl, (refl, (refl, (refl, (refl, (refl, (refl, tt)))))))))),
+  ),
+)
 
 pub days-of-the-calendar : DaysOfTheCalendar
 unfolding daysIn months getD length

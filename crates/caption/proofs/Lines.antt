@@ -43,7 +43,9 @@ module _ {s : List ℕ} {p : ℕ} {c : Cut} (a : Ahead s p c) (h : p < length s)
   -- and it lies inside the text
   pub here-inside : c .line .start + c .line .len ≤ length s
   unfolding lineText
-  here-inside = rw (a .line h) (omega (arith, length-take (textLength (cutBytes s p c)) (cutBytes s p c), long, a .next h .1))
+  here-inside =
+      let text = length-take (textLength (cutBytes s p c)) (cutBytes s p c) in
+      rw (a .line h) (omega (arith, text, long, a .next h .1))
 
 -- ---- a part inside a text is shown as it is
 

@@ -1,6 +1,6 @@
 -- The caption's bytes are what the plain words say.
-use Rattle.text.specs.Prelude.{ℕ, zero, suc, _-_, _≤_, _<_, _≡_, true, false, List, [], _∷_, map, length, drop, pick, _≤?_}
-use Rattle.text.specs.Prelude.{_=?_}
+use Rattle.text.specs.Prelude.{ℕ, zero, suc, _-_, _≤_, _<_, _≡_, true, false, List, [], _∷_, map, length, drop, pick}
+use Rattle.text.specs.Prelude.{_≤?_, _=?_}
 use Rattle.text.proofs.Prelude.{arith, refl, sym, ap, _∙_, drop-of-length-le, yes=, no=, is≤, isnt≤, by-test}
 use Rattle.part.specs.Part.{bytesOf, findMaybe, maybeBytes, shown}
 use Rattle.log.specs.Line.{lineText, cutAt}

@@ -11,7 +11,8 @@ use Rattle.walk.specs.Readings.{reader}
 use Rattle.task_line.specs.Lines.{TaskLine, declaration, point, other, taskLines}
 use Rattle.task_line.proofs.Seeing.{seen, alike}
 use Rattle.task_text.specs.Points.{pointsText}
-use Rattle.task.specs.Sheet.{Task, missing, declared, firstDeclaration, arePoints, sheet, sheetFrom, sheetAfter, sheetOf}
+use Rattle.task.specs.Sheet.{Task, missing, declared, firstDeclaration, arePoints, sheet, sheetFrom, sheetAfter}
+use Rattle.task.specs.Sheet.{sheetOf}
 use Rattle.promises.specs.TaskSheets.{LaterLines}
 
 -- whole lines and then others are seen one after the other

@@ -38,7 +38,8 @@ module _ {R : Type 0} (E : Extended R) (leaves : (s : List ℕ) → E .named .le
   )
 
   -- a line that is not accepted spoils the table
-  spoils : (s : List ℕ) → ((r : Record) → readLine s ≡ ok r → ⊥) → E .named .begins s ≡ true → E .named .leaves s ≡ spoiled
+  spoils : (s : List ℕ) → ((r : Record) → readLine s ≡ ok r → ⊥) → E .named .begins s ≡ true →
+      E .named .leaves s ≡ spoiled
   spoils s h b = leaves s ∙ by (readTable s) refl
     where
       by : (m : Res (List Extension)) → readTable s ≡ m → setBy (readTable s) ≡ spoiled
@@ -68,8 +69,10 @@ module _ {R : Type 0} (E : Extended R) (leaves : (s : List ℕ) → E .named .le
         values-stay (length (chunks new)) (length (chunks old)) (length new) (length old)
         (not (some reader (E .named) (chunks new) ∨? some reader (E .named) (chunks old)))
         (afterRun pre new post) (afterRun pre old post) (d .later) (d .tables (E .named));
-    refused = λ a b c. no-values false (readings reader (pre ++ (new ++ post)))
-        (d .removed (E .named) spoiled (all-spoil (chunks pre) a) (all-spoil (chunks new) b) (all-spoil (chunks post) c));
+    refused = λ a b c.
+        let after = all-spoil (chunks post) c in
+        no-values false (readings reader (pre ++ (new ++ post)))
+        (d .removed (E .named) spoiled (all-spoil (chunks pre) a) (all-spoil (chunks new) b) after);
   }
 
 -- ---- both letters

@@ -18,7 +18,8 @@ use Rattle.walk.specs.Readings.{reader, readBy, walked, afterSteps}
 use Rattle.walk.specs.declared.{Walk.Walk, Step.Step}
 use Rattle.walk.specs.declared.Taken.the-variants.{Line}
 use Rattle.walk.proofs.Laws.{viewed, step-on}
-use Rattle.walk.proofs.Steps.{Roomy, done, going, past-done, end-is-done, end-reached, roomy-fresh, roomy-on, roomy-step}
+use Rattle.walk.proofs.Steps.{Roomy, done, going, past-done, end-is-done, end-reached, roomy-fresh, roomy-on}
+use Rattle.walk.proofs.Steps.{roomy-step}
 use Rattle.walk.proofs.Reporting.{fresh-report}
 use Rattle.reader.specs.Reader.{readerAt, handedBy, handedOut}
 use Rattle.watch_text.specs.Watch.{watcher}

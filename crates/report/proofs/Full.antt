@@ -1,6 +1,6 @@
 -- A count at its largest.
-use Rattle.text.specs.Prelude.{ℕ, zero, suc, _+_, _≤_, _<_, _≡_, Bool, true, false, List, [], _∷_, length, drop, getD, set}
-use Rattle.text.specs.Prelude.{Res, pick, _≤?_, _∨?_, largest}
+use Rattle.text.specs.Prelude.{ℕ, zero, suc, _+_, _≤_, _<_, _≡_, Bool, true, false, List, [], _∷_, length, drop, getD}
+use Rattle.text.specs.Prelude.{set, Res, pick, _≤?_, _∨?_, largest}
 use native.Mathlib.Numerals.{add-one}
 use Rattle.text.proofs.Prelude.{arith, refl, sym, drop-cons, yes≤, no≤, isnt≤, neither, and, first}
 use Rattle.records.specs.Record.{answered, answerFix}

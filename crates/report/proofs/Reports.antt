@@ -1,6 +1,6 @@
 -- The report of readings in parts, and reading by reading.
-use Rattle.text.specs.Prelude.{ℕ, zero, suc, _+_, _≤_, _<_, _≡_, Bool, true, false, List, [], _∷_, _++_, length, take, getD}
-use Rattle.text.specs.Prelude.{Res, pick, _=?_, _∨?_, largest}
+use Rattle.text.specs.Prelude.{ℕ, zero, suc, _+_, _≤_, _<_, _≡_, Bool, true, false, List, [], _∷_, _++_, length, take}
+use Rattle.text.specs.Prelude.{getD, Res, pick, _=?_, _∨?_, largest}
 use Rattle.text.proofs.Prelude.{arith, refl, sym, _∙_, no≤}
 use Rattle.records.specs.Record.{readLine, answered, answerFix}
 use Rattle.records.specs.declared.{Record.Record}

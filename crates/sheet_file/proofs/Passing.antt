@@ -36,7 +36,8 @@ starts-line (w ∷ ws) h b [] s c =
     let e : (w =? b) ≡ false = no= (λ q. in-line ws h .0 (q ∙ is= c)) in
     fails _ e ∙ sym (fails _ e)
 starts-line (w ∷ []) h b (x ∷ g) s c = refl
-starts-line (w ∷ v ∷ ws) h b (x ∷ g) s c = ap (λ t. (w =? b) ∧? t) (starts-line (v ∷ ws) (in-line (v ∷ ws) h .1) x g s c)
+starts-line (w ∷ v ∷ ws) h b (x ∷ g) s c =
+    ap (λ t. (w =? b) ∧? t) (starts-line (v ∷ ws) (in-line (v ∷ ws) h .1) x g s c)
 
 all-in-line : inLine (spelt "all ") ≡ true
 unfolding inLine spelt speltFrom pick _=?_
@@ -96,7 +97,8 @@ abbrev pub later : ℕ → Sheet → Sheet
 later k (whole t) = whole t
 later k (noSheet n) = noSheet (k + n)
 
-sheet-behind : (g s : List ℕ) (x : Read Totals) → Leaves (length s) x → sheetOf (g ++ s) x ≡ later (ends g) (sheetOf s x)
+sheet-behind : (g s : List ℕ) (x : Read Totals) → Leaves (length s) x →
+    sheetOf (g ++ s) x ≡ later (ends g) (sheetOf s x)
 unfolding sheetOf
 sheet-behind g s (got t r) h = refl
 sheet-behind g s (wrong r) h = ap noSheet (line-behind g s r (h .most))

@@ -203,7 +203,8 @@ pub refused-apart :
     (leftFirst apartA apartB apartC ≡ refused 21) ×
     (rightFirst apartA apartB apartC ≡ given (joinOf apartA (joinOf apartB apartC)))
 unfolding leftFirst rightFirst andThen apart apartSpot apartA apartB apartC joinRes joinFits totalFits joinOf both
-    laterBy laterPressure lowerPressure mapped joined higher added byNumber from allFit logNumbers numbersOf _∧?_ _≤?_ pick
+    laterBy laterPressure lowerPressure mapped joined higher added byNumber from allFit logNumbers numbersOf _∧?_
+    _≤?_ pick
 refused-apart = (refl, refl)
 
 -- ---- totals of logs

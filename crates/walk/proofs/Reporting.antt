@@ -62,4 +62,6 @@ module _ (s : List ℕ) (short : length s ≤ largest) where
   -- and at the end that of the log
   pub end-report : atEnd s fresh .report ≡ reportMade (reportOf (readings reader s))
   unfolding atEnd
-  end-report = fresh-report (length s) ∙ ap (λ xs. reportMade (reportOf xs)) (take-all (length s) (readings reader s) few)
+  end-report =
+      let all = take-all (length s) (readings reader s) few in
+      fresh-report (length s) ∙ ap (λ xs. reportMade (reportOf xs)) all

@@ -27,7 +27,8 @@ gone : (c : tie.After-find-all) →
     c .find-all .result ≤ length (now (c .before .before .before .before .before .before .args .win))
 gone c =
     let n = c .before .before .before .piece-end .result in
-    omega (arith, c .find-all .ensures .1, length-take (n - 0) (now (c .before .before .before .before .before .before .args .win)))
+    let win = now (c .before .before .before .before .before .before .args .win) in
+    omega (arith, c .find-all .ensures .1, length-take (n - 0) win)
 
 too-long : tie.Need-returns
 unfolding stopped

@@ -30,7 +30,8 @@ again c =
     let l : tie.At-loop Inv-loop μ-loop = search needs in (
       search needs,
       not-here _ (l .loop .i) (l .loop .start) (search needs) (l .loop .inv .1) (⊎-elim
-          (λ w. holds (w .0 .taken) (sym (rw (rest-of _ (l .loop .i)) at (w .3 .ensures)) ∙ w .4 .left)) (λ w. fails _ (w .left)) (c .before .if1 .came)),
+          (λ w. holds (w .0 .taken) (sym (rw (rest-of _ (l .loop .i)) at (w .3 .ensures)) ∙ w .4 .left))
+          (λ w. fails _ (w .left)) (c .before .if1 .came)),
     )
 
 ends : tie.Need-returns-2 Inv-loop μ-loop

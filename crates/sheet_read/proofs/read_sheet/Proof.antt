@@ -15,7 +15,8 @@ block : (c : tie.After-read-block) →
 block c = rw (rest-of _ (c .before .before .find-all .result)) at (c .read-block .ensures)
 
 inside : (c : tie.After-read-block) →
-    c .before .before .find-all .result + c .read-block .result .end ≤ length (now (c .before .before .before .before .args .text))
+    let text = now (c .before .before .before .before .args .text) in
+    c .before .before .find-all .result + c .read-block .result .end ≤ length text
 inside c =
     let f = c .before .before .find-all in
     stop-inside _ (f .result) (f .ensures .1) (f .ensures .0) (block c)
@@ -30,7 +31,8 @@ all c =
     let f = r .before .before .find-all in
     let g : tie.Then1 = search needs in
     let e : tie.Then2 = search needs in
-    ap beside (sheet-whole _ (f .result) (f .ensures .1) (f .ensures .0) (rw (g .if1 .taken) at (block r)) (e .if2 .taken))
+    let read = rw (g .if1 .taken) at (block r) in
+    ap beside (sheet-whole _ (f .result) (f .ensures .1) (f .ensures .0) read (e .if2 .taken))
 
 part-end : tie.Need-part-count-ends-end
 part-end c = let h = inside (c .before .before) in search needs

@@ -7,8 +7,9 @@ returns : tie.Need-returns
 returns c =
     let parsed = c .before in
     let view = parsed .before in
-    sees _ _ (parsed .parse-line .result) (view .before .before .cut-ahead .ensures) (view .view .ensures .bytes) (parsed .parse-line .ensures)
-    (c .kind-of .ensures)
+    let cut = view .before .before in
+    sees _ _ (parsed .parse-line .result) (cut .cut-ahead .ensures) (view .view .ensures .bytes)
+    (parsed .parse-line .ensures) (c .kind-of .ensures)
 
 pub line-at-spec : {M : Type 1} → statement M
 line-at-spec = tie.close (tie.spec (search needs) (search needs) (search needs) (search needs) returns)

@@ -59,7 +59,8 @@ step-spec =
     (tie.spec
     (search needs)
     full
-    (search needs) (search needs) (search needs) (search needs) (search needs) (search needs) (search needs) (search needs)
+    (search needs) (search needs) (search needs) (search needs)
+    (search needs) (search needs) (search needs) (search needs)
     by-i
     (search needs) (search needs)
     by-j
