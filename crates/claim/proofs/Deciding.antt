@@ -3,9 +3,11 @@ use Rattle.text.specs.Prelude.{ℕ, suc, code, _+_, _≤_, _≡_, Bool, true, f
 use Rattle.text.specs.Prelude.{pick, _≤?_, _=?_, _∧?_, _∨?_}
 use Rattle.text.proofs.Prelude.{arith, refl, sym, ap, _∙_, append-nil, append-assoc, length-append, take-at, and, both}
 use Rattle.text.proofs.Prelude.{first, second, no=, by-test, never}
+use Rattle.records.specs.Record.{answerFix}
 use Rattle.report.specs.Report.{shown}
 use Rattle.log.specs.Fold.{over}
 use Rattle.walk.specs.Readings.{Line-read}
+use Rattle.claim_line.specs.Asked.{askedOf}
 use Rattle.claim.specs.Rules.{some, isNone, isLine, isShort, stepsBack, timesOf, lastTime, isAgain, holds}
 use Rattle.claim.specs.Rules.{breaks, firstIsA, howMany, lastAfter}
 use Rattle.claim.specs.Claim.{allHold, firstBroken, leastNot, failingLine, claimOf}
@@ -15,7 +17,7 @@ use Rattle.claim.specs.Step.{judged, claimStep, verdictAtEnd}
 use Rattle.claim.specs.Laws.{Decides}
 use Rattle.claim.specs.declared.{verdict.Rule.Rule, verdict.Verdict.Verdict, Sofar.Sofar}
 use Rattle.claim.proofs.Tests.{∨?-true, one-more, broken-here}
-use Rattle.claim.proofs.Lines.{some-more, backs-more, last-more, some-lines, one-more-line}
+use Rattle.claim.proofs.Lines.{some-more, backs-more, goes-back, last-more, some-lines, one-more-line}
 use Rattle.claim.proofs.Stepping.{no-stays-over}
 
 -- ---- all rules
@@ -90,7 +92,7 @@ module _ (before : List Line-read) (x : Line-read) where
   with = before ++ (x ∷ [])
 
   -- what is asked of this line, by the rules
-  tests-are : lineVerdict (summary before) (x .line) (x .answer)
+  tests-are : lineVerdict (summary before) (askedOf (x .line) (x .answer))
       ≡ pick (breaks Rule.First before x) (Verdict.No (length before + 1) Rule.First)
       (pick (breaks Rule.Table before x) (Verdict.No (length before + 1) Rule.Table)
       (pick (breaks Rule.Long before x) (Verdict.No (length before + 1) Rule.Long)
@@ -98,10 +100,11 @@ module _ (before : List Line-read) (x : Line-read) where
       (pick (breaks Rule.Book before x) (Verdict.No (length before + 1) Rule.Book)
       (pick (breaks Rule.Time before x) (Verdict.No (length before + 1) Rule.Time)
       Verdict.Yes)))))
-  unfolding lineVerdict noStart outOfPlace seenAgain secondBack breaks isAgain isLine isNone isShort
-  tests-are = refl
+  unfolding askedOf lineVerdict noStart outOfPlace seenAgain secondBack breaks isAgain isLine isNone isShort
+  tests-are = rw (goes-back (lastTime before) (answerFix (x .answer)))
 
-  line-judged : Fine before → lineVerdict (summary before) (x .line) (x .answer) ≡ noAt (length before + 1) with
+  line-judged : Fine before →
+      lineVerdict (summary before) (askedOf (x .line) (x .answer)) ≡ noAt (length before + 1) with
   unfolding allHold firstBroken
   line-judged f =
       let h : (r : Rule) → breaks r before x ≡ not (holds r with) =
@@ -109,12 +112,13 @@ module _ (before : List Line-read) (x : Line-read) where
       tests-are ∙ rw (h Rule.First, h Rule.Table, h Rule.Long, h Rule.Refused, h Rule.Book, h Rule.Time)
       (verdict-row _ _ _ _ _ _ _)
 
-  passed-is : passed (summary before) (x .line) (x .answer) ≡ summary with
-  unfolding passed isLine
+  passed-is : passed (summary before) (askedOf (x .line) (x .answer)) ≡ summary with
+  unfolding askedOf passed isLine
   passed-is =
       rw (
         length-append before (x ∷ []),
         last-more before x,
+        goes-back (lastTime before) (answerFix (x .answer)),
         backs-more before x,
         one-more (stepsBack (timesOf before)) _,
         some-more (isLine (code "I")) before x,

@@ -10,6 +10,7 @@ use Rattle.log.specs.Fold.{over}
 use Rattle.log.proofs.Chunks.{chunks-some}
 use Rattle.log.proofs.Ends.{textLength-le, lineText-first}
 use Rattle.walk.specs.Readings.{Line-read, reader}
+use Rattle.claim_line.specs.Asked.{askedOf}
 use Rattle.claim.specs.Step.{isYes, seenAgain, outOfPlace, noStart, lineVerdict, failed, judged, claimStep}
 use Rattle.claim.specs.Laws.{LongFront}
 use Rattle.claim.specs.declared.{verdict.Rule.Rule, verdict.Verdict.Verdict, Sofar.Sofar}
@@ -72,8 +73,8 @@ unfolding frontVerdict
 front-no c b = one-of-three _ _ _
 
 front-judged : (c : Sofar) (b : ℕ) (l : List ℕ) (m : Res Record) → ((letter : ℕ) → begins letter l ≡ (b =? letter)) →
-    77 ≤ length l → lineVerdict c l m ≡ frontVerdict c b
-unfolding lineVerdict noStart outOfPlace seenAgain frontVerdict pick
+    77 ≤ length l → lineVerdict c (askedOf l m) ≡ frontVerdict c b
+unfolding askedOf lineVerdict noStart outOfPlace seenAgain frontVerdict pick
 front-judged c b l m h long =
     let over76 : (length l ≤? 76) ≡ false = no≤ (omega arith) in
     rw (h (code "A"), h (code "I"), h (code "J"), over76)

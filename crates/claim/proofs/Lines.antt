@@ -11,10 +11,11 @@ use Rattle.records.specs.declared.MaybeFix.{MaybeFix}
 use Rattle.report.specs.Figures.{earlier}
 use Rattle.report.specs.Report.{ofFix, timeAt, shown}
 use Rattle.walk.specs.Readings.{Line-read}
+use Rattle.claim_line.specs.Asked.{isAccepted, isBook, secondIn}
 use Rattle.claim.specs.Rules.{howMany, some, every, noneBehind, isNone, isLine, backsAfter, stepsBack, timesOf}
-use Rattle.claim.specs.Rules.{firstIsA, onceBeforeB, isShort, isAccepted, isBook, lastAfter, lastTime, goesBack}
+use Rattle.claim.specs.Rules.{firstIsA, onceBeforeB, isShort, lastAfter, lastTime, goesBack}
 use Rattle.claim.specs.Rules.{holds, isAgain, breaks}
-use Rattle.claim.specs.Step.{lastWith}
+use Rattle.claim.specs.Step.{comesBefore, lastWith}
 use Rattle.claim.specs.Laws.{OneMore}
 use Rattle.claim.specs.declared.verdict.Rule.{Rule}
 use Rattle.claim.proofs.Tests.{∧?-true, ∧?-false, ∧?-comm, ∨?-true, once-more, behind-tested}
@@ -93,8 +94,14 @@ unfolding ofFix timeAt backsAfter goesBack pick
 one-back s p MaybeFix.Missing = refl
 one-back s p (MaybeFix.Fix b) = add-zero _
 
-one-last : (s p : ℕ) (m : MaybeFix) → lastAfter s (ofFix (timeAt p) m) ≡ lastWith s m
-unfolding ofFix timeAt lastAfter lastWith
+-- the step asks it of the second alone
+pub goes-back : (s : ℕ) (m : MaybeFix) → comesBefore s (secondIn m) ≡ goesBack s m
+unfolding comesBefore secondIn goesBack
+goes-back s MaybeFix.Missing = refl
+goes-back s (MaybeFix.Fix b) = refl
+
+one-last : (s p : ℕ) (m : MaybeFix) → lastAfter s (ofFix (timeAt p) m) ≡ lastWith s (secondIn m)
+unfolding ofFix timeAt lastAfter lastWith secondIn
 one-last s p MaybeFix.Missing = refl
 one-last s p (MaybeFix.Fix b) = refl
 
@@ -112,7 +119,7 @@ backs-more xs x =
     )
 
 pub last-more : (xs : List Line-read) (x : Line-read) →
-    lastTime (xs ++ (x ∷ [])) ≡ lastWith (lastTime xs) (answerFix (x .answer))
+    lastTime (xs ++ (x ∷ [])) ≡ lastWith (lastTime xs) (secondIn (answerFix (x .answer)))
 unfolding lastTime
 last-more xs x =
     rw (times-more xs x, last-append 0 (timesOf xs) (timeIn x)) (one-last _ (x .place) (answerFix (x .answer)))

@@ -1,13 +1,14 @@
 -- What the verdict says.
 use Rattle.text.specs.Prelude.{ℕ, zero, suc, _+_, _≤_, _<_, max, _≡_, Bool, true, false, List, [], _∷_, _++_, length}
-use Rattle.text.specs.Prelude.{Res, _-_, take, drop, pick, _≤?_, _=?_, _∨?_}
+use Rattle.text.specs.Prelude.{_-_, take, drop, pick, _≤?_, _=?_, _∨?_}
 use Rattle.text.proofs.Prelude.{arith, refl, sym, ap, _∙_, first, second, take-all, no=, is≤, isnt≤, and, by-test}
 use Rattle.text.proofs.Prelude.{never}
 use native.Mathlib.Nat.{add-zero}
 use lib.Seq.{take-add}
-use Rattle.records.specs.declared.Record.{Record}
 use Rattle.log.specs.Fold.{over}
 use Rattle.walk.specs.Readings.{Line-read}
+use Rattle.claim_line.specs.Asked.{askedOf}
+use Rattle.claim_line.specs.declared.Asked.{Asked}
 use Rattle.claim.specs.Rules.{isNone, holds, breaks}
 use Rattle.claim.specs.Claim.{allHold, firstBroken, leastNot, failingLine, claimOf}
 use Rattle.claim.specs.Step.{isYes, fresh, lineVerdict, passed, failed, judged, claimStep, verdictAtEnd}
@@ -191,15 +192,17 @@ over-append c (x ∷ xs) ys = over-append (claimStep c x) xs ys
 abbrev Some : Sofar → Type 0
 Some c = isYes (c .verdict) ≡ true → 1 ≤ c .lines
 
-some-judged : (c : Sofar) (l : List ℕ) (m : Res Record) → Some (judged c l m)
+some-judged : (c : Sofar) (l : Asked) → Some (judged c l)
 unfolding judged passed failed pick
-some-judged c l m =
-    by-test (isYes (lineVerdict c l m)) (λ e. rw e (λ h. omega arith)) (λ e. rw e (λ h. never h e))
+some-judged c l =
+    by-test (isYes (lineVerdict c l)) (λ e. rw e (λ h. omega arith)) (λ e. rw e (λ h. never h e))
 
 some-after : (c : Sofar) (x : Line-read) → Some (claimStep c x)
 unfolding claimStep pick
 some-after c x =
-    by-test (isYes (c .verdict)) (λ e. rw e (some-judged c (x .line) (x .answer))) (λ e. rw e (λ h. never h e))
+    by-test (isYes (c .verdict))
+    (λ e. rw e (some-judged c (askedOf (x .line) (x .answer))))
+    (λ e. rw e (λ h. never h e))
 
 some-over : (c : Sofar) (xs : List Line-read) → Some c → Some (over claimStep c xs)
 unfolding over

@@ -1,13 +1,14 @@
 -- The walk of a claim, a line at a time.
-use Rattle.text.specs.Prelude.{ℕ, _+_, _≤_, _≡_, true, false, List, [], _∷_, Res, pick}
+use Rattle.text.specs.Prelude.{ℕ, _+_, _≤_, _≡_, true, false, List, [], _∷_, pick}
 use Rattle.text.proofs.Prelude.{arith, refl, sym, ap, _∙_, first, second, by-test}
-use Rattle.records.specs.declared.Record.{Record}
 use Rattle.log.specs.Log.{readings}
 use Rattle.log.specs.Fold.{over, fresh}
 use Rattle.log.proofs.Pieces.{made-is, all-read}
 use Rattle.log.proofs.Reached.{settled}
 use Rattle.walk.specs.Readings.{Line-read, reader}
 use Rattle.walk.proofs.Turns.{Made}
+use Rattle.claim_line.specs.Asked.{askedOf}
+use Rattle.claim_line.specs.declared.Asked.{Asked}
 use Rattle.claim.specs.Step.{isYes, lineVerdict, passed, failed, judged, claimStep}
 use Rattle.claim.specs.declared.Sofar.{Sofar}
 
@@ -23,20 +24,20 @@ no-stays-over c [] n = refl
 no-stays-over c (x ∷ xs) n = rw (no-stays c x n) (no-stays-over c xs n)
 
 -- the next line is judged where all before it passed
-pub next-judged : (c : Sofar) {r : Sofar} (x : Line-read) → isYes (c .verdict) ≡ true →
-    r ≡ judged c (x .line) (x .answer) → r ≡ claimStep c x
+pub next-judged : (c : Sofar) {r : Sofar} {l : Asked} (x : Line-read) → isYes (c .verdict) ≡ true →
+    r ≡ judged c l → l ≡ askedOf (x .line) (x .answer) → r ≡ claimStep c x
 unfolding claimStep
-next-judged c x y e = first _ y e
+next-judged c x y e a = first _ y (e ∙ ap (judged c) a)
 
 -- a line raises the count of lines by at most one
-judged-most : (c : Sofar) (l : List ℕ) (m : Res Record) → judged c l m .lines ≤ c .lines + 1
+judged-most : (c : Sofar) (l : Asked) → judged c l .lines ≤ c .lines + 1
 unfolding judged passed failed pick
-judged-most c l m = by-test (isYes (lineVerdict c l m)) (λ e. rw e (omega arith)) (λ e. rw e (omega arith))
+judged-most c l = by-test (isYes (lineVerdict c l)) (λ e. rw e (omega arith)) (λ e. rw e (omega arith))
 
 pub lines-most : (c : Sofar) (x : Line-read) → claimStep c x .lines ≤ c .lines + 1
 unfolding claimStep pick
 lines-most c x =
-    by-test (isYes (c .verdict)) (λ e. rw e (judged-most c (x .line) (x .answer))) (λ e. rw e (omega arith))
+    by-test (isYes (c .verdict)) (λ e. rw e (judged-most c (askedOf (x .line) (x .answer)))) (λ e. rw e (omega arith))
 
 -- a loop may stop at a no
 pub stopped : {a c : Sofar} {s : List ℕ} {at : ℕ} → Made claimStep a s at c → isYes (c .verdict) ≡ false →

@@ -1,5 +1,4 @@
 pub mod Rules
 pub mod Claim
 pub mod Step
-pub mod Text
 pub mod Laws

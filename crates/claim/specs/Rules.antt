@@ -1,13 +1,14 @@
 -- The rules of a record claim, in the order of the request, each a property of all readings of a log by itself; and at
 -- which line each fails.
-use Rattle.text.specs.Prelude.{ℕ, code, _+_, Bool, true, false, not, List, [], _∷_, length, Res, ok, no, pick, _≤?_}
-use Rattle.text.specs.Prelude.{_=?_, _∧?_, _∨?_, begins}
+use Rattle.text.specs.Prelude.{ℕ, code, _+_, Bool, true, false, not, List, [], _∷_, length, pick, _≤?_, _=?_, _∧?_}
+use Rattle.text.specs.Prelude.{_∨?_, begins}
 use Rattle.time.specs.Time.{secondsOf}
-use Rattle.records.specs.Record.{recordBook, answered, answerFix}
-use Rattle.records.specs.declared.{Record.Record, MaybeFix.MaybeFix}
+use Rattle.records.specs.Record.{answerFix}
+use Rattle.records.specs.declared.MaybeFix.{MaybeFix}
 use Rattle.report.specs.Figures.{earlier}
 use Rattle.report.specs.Report.{timeAt, shown}
 use Rattle.walk.specs.Readings.{Line-read}
+use Rattle.claim_line.specs.Asked.{isAccepted, isBook}
 use Rattle.claim.specs.declared.verdict.Rule.{Rule}
 
 -- ---- some things, and a test of one
@@ -36,7 +37,7 @@ module _ {X : Type 0} where
   unfoldable pub isNone : List X → Bool
   isNone xs = length xs =? 0
 
--- ---- what is asked of a line
+-- ---- what is asked of a line (whether it is accepted and by the book: `claim_line`)
 
 -- A line of a letter is one that begins so, accepted or not.
 unfoldable pub isLine : ℕ → Line-read → Bool
@@ -45,15 +46,6 @@ isLine letter x = begins letter (x .line)
 -- Its text has at most 76 bytes. The LF that ends the line, and the one CR directly before it, are not of its text.
 unfoldable pub isShort : Line-read → Bool
 isShort x = length (x .line) ≤? 76
-
--- Its answer is 0; 12 is not accepted here.
-unfoldable pub isAccepted : Res Record → Bool
-isAccepted m = answered m =? 0
-
--- What was accepted is by the book.
-unfoldable pub isBook : Res Record → Bool
-isBook (ok r) = recordBook r
-isBook (no n) = true
 
 -- ---- times
 

@@ -1,13 +1,11 @@
 -- The walk that decides a claim line by line.
-use Rattle.text.specs.Prelude.{ℕ, code, _+_, Bool, true, false, not, List, length, Res, pick, _≤?_, _=?_, _∧?_, _∨?_}
-use Rattle.text.specs.Prelude.{largest, begins}
-use Rattle.time.specs.Time.{secondsOf}
-use Rattle.records.specs.Record.{answerFix}
-use Rattle.records.specs.declared.{Record.Record, MaybeFix.MaybeFix}
+use Rattle.text.specs.Prelude.{ℕ, _+_, Bool, true, false, not, List, length, pick, _≤?_, _=?_, _∧?_, _∨?_, largest}
 use Rattle.log.specs.Log.{readings}
 use Rattle.log.specs.Fold.{over}
+use Rattle.report.specs.Figures.{earlier}
 use Rattle.walk.specs.Readings.{Line-read, reader}
-use Rattle.claim.specs.Rules.{isAccepted, isBook, goesBack}
+use Rattle.claim_line.specs.Asked.{askedOf}
+use Rattle.claim_line.specs.declared.{MaybeSecond.MaybeSecond, Asked.Asked}
 use Rattle.claim.specs.declared.{verdict.Rule.Rule, verdict.Verdict.Verdict, Sofar.Sofar}
 
 -- The verdict is yes.
@@ -30,46 +28,51 @@ fresh = record {
 -- ---- one line more
 
 -- A line of a letter where one of it, or a B line, was seen.
-unfoldable pub seenAgain : ℕ → Bool → Bool → List ℕ → Bool
-seenAgain letter one b line = begins letter line ∧? (one ∨? b)
+unfoldable pub seenAgain : Bool → Bool → Bool → Bool
+seenAgain here one b = here ∧? (one ∨? b)
 
 -- An I or a J line that stands where none may.
-unfoldable pub outOfPlace : Sofar → List ℕ → Bool
-outOfPlace c line = seenAgain (code "I") (c .i) (c .b) line ∨? seenAgain (code "J") (c .j) (c .b) line
+unfoldable pub outOfPlace : Sofar → Asked → Bool
+outOfPlace c line = seenAgain (line .i) (c .i) (c .b) ∨? seenAgain (line .j) (c .j) (c .b)
 
 -- The first line, and no A line.
-unfoldable pub noStart : Sofar → List ℕ → Bool
-noStart c line = (c .lines =? 0) ∧? not (begins (code "A") line)
+unfoldable pub noStart : Sofar → Asked → Bool
+noStart c line = (c .lines =? 0) ∧? not (line .a)
+
+-- The second of a line's fix, if it has one, is before the time s.
+unfoldable pub comesBefore : ℕ → MaybeSecond → Bool
+comesBefore s MaybeSecond.Missing = false
+comesBefore s (MaybeSecond.Second t) = earlier t s
 
 -- The second time that goes back.
-unfoldable pub secondBack : Sofar → Res Record → Bool
-secondBack c m = c .back ∧? goesBack (c .last) (answerFix m)
+unfoldable pub secondBack : Sofar → Asked → Bool
+secondBack c line = c .back ∧? comesBefore (c .last) (line .second)
 
 -- The first rule, in the order of the request, that a line breaks which follows on those that passed.
-unfoldable pub lineVerdict : Sofar → List ℕ → Res Record → Verdict
-lineVerdict c line m =
+unfoldable pub lineVerdict : Sofar → Asked → Verdict
+lineVerdict c line =
     pick (noStart c line) (Verdict.No (c .lines + 1) Rule.First)
     (pick (outOfPlace c line) (Verdict.No (c .lines + 1) Rule.Table)
-    (pick (not (length line ≤? 76)) (Verdict.No (c .lines + 1) Rule.Long)
-    (pick (not (isAccepted m)) (Verdict.No (c .lines + 1) Rule.Refused)
-    (pick (not (isBook m)) (Verdict.No (c .lines + 1) Rule.Book)
-    (pick (secondBack c m) (Verdict.No (c .lines + 1) Rule.Time)
+    (pick (not (line .short)) (Verdict.No (c .lines + 1) Rule.Long)
+    (pick (not (line .accepted)) (Verdict.No (c .lines + 1) Rule.Refused)
+    (pick (not (line .book)) (Verdict.No (c .lines + 1) Rule.Book)
+    (pick (secondBack c line) (Verdict.No (c .lines + 1) Rule.Time)
     Verdict.Yes)))))
 
 -- The last time, with that of a fix, if a line has one.
-unfoldable pub lastWith : ℕ → MaybeFix → ℕ
-lastWith s MaybeFix.Missing = s
-lastWith s (MaybeFix.Fix b) = secondsOf (b .timestamp)
+unfoldable pub lastWith : ℕ → MaybeSecond → ℕ
+lastWith s MaybeSecond.Missing = s
+lastWith s (MaybeSecond.Second t) = t
 
 -- One line more has passed.
-unfoldable pub passed : Sofar → List ℕ → Res Record → Sofar
-passed c line m = record {
+unfoldable pub passed : Sofar → Asked → Sofar
+passed c line = record {
   lines = c .lines + 1;
-  last = lastWith (c .last) (answerFix m);
-  back = c .back ∨? goesBack (c .last) (answerFix m);
-  i = c .i ∨? begins (code "I") line;
-  j = c .j ∨? begins (code "J") line;
-  b = c .b ∨? begins (code "B") line;
+  last = lastWith (c .last) (line .second);
+  back = c .back ∨? comesBefore (c .last) (line .second);
+  i = c .i ∨? line .i;
+  j = c .j ∨? line .j;
+  b = c .b ∨? line .b;
   verdict = Verdict.Yes;
 }
 
@@ -86,13 +89,12 @@ failed c v = record {
 }
 
 -- After a line that follows on those that passed.
-unfoldable pub judged : Sofar → List ℕ → Res Record → Sofar
-judged c line m =
-    pick (isYes (lineVerdict c line m)) (passed c line m) (failed c (lineVerdict c line m))
+unfoldable pub judged : Sofar → Asked → Sofar
+judged c line = pick (isYes (lineVerdict c line)) (passed c line) (failed c (lineVerdict c line))
 
 -- After one reading more: a no stays.
 unfoldable pub claimStep : Sofar → Line-read → Sofar
-claimStep c x = pick (isYes (c .verdict)) (judged c (x .line) (x .answer)) c
+claimStep c x = pick (isYes (c .verdict)) (judged c (askedOf (x .line) (x .answer))) c
 
 -- ---- a log
 

@@ -7,20 +7,17 @@ ghost use mathlib.Core.Bool.{true};
 ghost use lib.ListN.{length};
 ghost use Rattle.text.specs.Prelude.{_∨?_};
 ghost use Rattle.text.specs.Word.{largest};
-ghost use Rattle.records.specs.Record.{readingRes, answerFix};
 ghost use Rattle.log.specs.Log.{readings};
 ghost use Rattle.log.specs.Fold.{over};
 ghost use Rattle.walk.specs.Readings.{reader};
-ghost use Rattle.claim.specs.Rules.{isAccepted, isBook, goesBack};
 ghost use Rattle.claim.specs.Claim.{claimOf};
-ghost use Rattle.claim.specs.Step.{fresh, seenAgain, outOfPlace, lineVerdict, lastWith, passed, judged};
-ghost use Rattle.claim.specs.Step.{noStart, secondBack, claimStep, claimOn, verdictAtEnd};
+ghost use Rattle.claim.specs.Step.{fresh, comesBefore, seenAgain, outOfPlace, lineVerdict, lastWith, passed};
+ghost use Rattle.claim.specs.Step.{noStart, secondBack, judged, claimStep, claimOn, verdictAtEnd};
 use crate::verdict::Rule;
 use crate::verdict::Verdict;
-use records::MaybeFix;
-use records::Reading;
-use text::line::begins;
-use walk::turn::read_at;
+use claim_line::Asked;
+use claim_line::MaybeSecond;
+use claim_line::ask_at;
 
 // What goes from line to line: how many passed, the last time, whether one went back, whether an I, a J or a B line was
 // seen; and the verdict so far, which is yes until a line fails.
@@ -49,57 +46,31 @@ fn either(one: bool, other: bool) -> bool
     other
 }
 
-// 12 is not accepted here.
-fn is_accepted(reading: Reading) -> bool
-    ensures { λ r. ⌜ r ≡ isAccepted (readingRes reading) ⌝ }
+// The second of a fix is before the last one; an equal one is not.
+fn goes_back(last: u32, second: MaybeSecond) -> bool
+    ensures { λ r. ⌜ r ≡ comesBefore last second ⌝ }
 {
-    match reading {
-        Reading::Accepted(record) => record.number() == 0,
-        Reading::Refused(_) => false,
-    }
-}
-
-// What was accepted is by the book.
-fn is_book(reading: Reading) -> bool
-    ensures { λ r. ⌜ r ≡ isBook (readingRes reading) ⌝ }
-{
-    match reading {
-        Reading::Accepted(record) => record.by_the_book(),
-        Reading::Refused(_) => true,
-    }
-}
-
-// The time of an accepted B line is before the last one; an equal one is not.
-fn goes_back(last: u32, reading: Reading) -> bool
-    ensures { λ r. ⌜ r ≡ goesBack last (answerFix (readingRes reading)) ⌝ }
-{
-    match reading.fix() {
-        MaybeFix::Fix(fix) => {
-            let time = fix.timestamp;
-            time.seconds_since_midnight() < last
-        }
-        MaybeFix::Missing => false,
+    match second {
+        MaybeSecond::Second(time) => time < last,
+        MaybeSecond::Missing => false,
     }
 }
 
 // The last time, after this line.
-fn last_with(last: u32, reading: Reading) -> u32
-    ensures { λ r. ⌜ r ≡ lastWith last (answerFix (readingRes reading)) ⌝ }
+fn last_with(last: u32, second: MaybeSecond) -> u32
+    ensures { λ r. ⌜ r ≡ lastWith last second ⌝ }
 {
-    match reading.fix() {
-        MaybeFix::Fix(fix) => {
-            let time = fix.timestamp;
-            time.seconds_since_midnight()
-        }
-        MaybeFix::Missing => last,
+    match second {
+        MaybeSecond::Second(time) => time,
+        MaybeSecond::Missing => last,
     }
 }
 
 // A line of a letter where one of it, or a B line, was seen.
-fn is_again(letter: u8, one: bool, b: bool, line: &[u8]) -> bool
-    ensures { λ r. ⌜ r ≡ seenAgain letter one b (now (line .entry)) ⌝ }
+fn is_again(here: bool, one: bool, b: bool) -> bool
+    ensures { λ r. ⌜ r ≡ seenAgain here one b ⌝ }
 {
-    if begins(letter, line) {
+    if here {
         return either(one, b);
     }
     false
@@ -122,39 +93,40 @@ impl Sofar {
     }
 
     // An I or a J line that stands where none may.
-    fn is_out_of_place(self, line: &[u8]) -> bool
-        ensures { λ r. ⌜ r ≡ outOfPlace self (now (line .entry)) ⌝ }
+    fn is_out_of_place(self, line: Asked) -> bool
+        ensures { λ r. ⌜ r ≡ outOfPlace self line ⌝ }
     {
-        if is_again(b'I', self.i, self.b, line) {
+        if is_again(line.i, self.i, self.b) {
             return true;
         }
-        is_again(b'J', self.j, self.b, line)
+        is_again(line.j, self.j, self.b)
     }
 
     // The first line, and no A line.
-    fn is_no_start(self, line: &[u8]) -> bool
-        ensures { λ r. ⌜ r ≡ noStart self (now (line .entry)) ⌝ }
+    fn is_no_start(self, line: Asked) -> bool
+        ensures { λ r. ⌜ r ≡ noStart self line ⌝ }
     {
         if self.lines != 0 {
             return false;
         }
-        !begins(b'A', line)
+        !line.a
     }
 
     // The second time that goes back.
-    fn is_second_back(self, reading: Reading) -> bool
-        ensures { λ r. ⌜ r ≡ secondBack self (readingRes reading) ⌝ }
+    fn is_second_back(self, line: Asked) -> bool
+        ensures { λ r. ⌜ r ≡ secondBack self line ⌝ }
     {
+        let second = line.second;
         if self.back {
-            return goes_back(self.last, reading);
+            return goes_back(self.last, second);
         }
         false
     }
 
     // The first rule that a line breaks which follows on those that passed.
-    fn line_verdict(self, line: &[u8], reading: Reading) -> Verdict
+    fn line_verdict(self, line: Asked) -> Verdict
         requires { ⌜ self .lines < largest ⌝ }
-        ensures { λ r. ⌜ r ≡ lineVerdict self (now (line .entry)) (readingRes reading) ⌝ }
+        ensures { λ r. ⌜ r ≡ lineVerdict self line ⌝ }
     {
         let number = self.lines + 1;
         if self.is_no_start(line) {
@@ -163,34 +135,35 @@ impl Sofar {
         if self.is_out_of_place(line) {
             return no(number, Rule::Table);
         }
-        if 76 < line.len() {
+        if !line.short {
             return no(number, Rule::Long);
         }
-        if !is_accepted(reading) {
+        if !line.accepted {
             return no(number, Rule::Refused);
         }
-        if !is_book(reading) {
+        if !line.book {
             return no(number, Rule::Book);
         }
-        if self.is_second_back(reading) {
+        if self.is_second_back(line) {
             return no(number, Rule::Time);
         }
         Verdict::Yes
     }
 
     // One line more has passed.
-    fn pass(self, line: &[u8], reading: Reading) -> Sofar
+    fn pass(self, line: Asked) -> Sofar
         requires { ⌜ self .lines < largest ⌝ }
-        ensures { λ r. ⌜ r ≡ passed self (now (line .entry)) (readingRes reading) ⌝ }
+        ensures { λ r. ⌜ r ≡ passed self line ⌝ }
     {
-        let back = either(self.back, goes_back(self.last, reading));
-        let i = either(self.i, begins(b'I', line));
-        let j = either(self.j, begins(b'J', line));
-        let b = either(self.b, begins(b'B', line));
+        let second = line.second;
+        let back = either(self.back, goes_back(self.last, second));
+        let i = either(self.i, line.i);
+        let j = either(self.j, line.j);
+        let b = either(self.b, line.b);
         Sofar {
             verdict: Verdict::Yes,
             lines: self.lines + 1,
-            last: last_with(self.last, reading),
+            last: last_with(self.last, second),
             back,
             i,
             j,
@@ -199,13 +172,13 @@ impl Sofar {
     }
 
     // After a line that follows on those that passed.
-    fn after(self, line: &[u8], reading: Reading) -> Sofar
+    fn after(self, line: Asked) -> Sofar
         requires { ⌜ self .lines < largest ⌝ }
-        ensures { λ r. ⌜ r ≡ judged self (now (line .entry)) (readingRes reading) ⌝ }
+        ensures { λ r. ⌜ r ≡ judged self line ⌝ }
     {
-        let verdict = self.line_verdict(line, reading);
+        let verdict = self.line_verdict(line);
         if verdict.is_yes() {
-            return self.pass(line, reading);
+            return self.pass(line);
         }
         Sofar {
             verdict,
@@ -245,11 +218,10 @@ fn claim_from(before: Sofar, piece: &[u8]) -> Sofar
         if !verdict.is_yes() {
             return sofar;
         }
-        let got = read_at(piece, at);
-        let part = got.line;
-        let reading = got.reading;
-        sofar = sofar.after(part.view(piece), reading);
-        at = got.next;
+        let here = ask_at(piece, at);
+        let line = here.asked;
+        sofar = sofar.after(line);
+        at = here.next;
     }
     sofar
 }

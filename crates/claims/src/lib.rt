@@ -10,6 +10,7 @@ ghost use Rattle.claims.specs.Claims.{hasRoom, stopped, leaving, lastTur
 use claim::Sofar;
 use claim::claim_on;
 use claim::verdict::Verdict;
+use claim_text::put_verdict;
 use files::input::Filled;
 use files::input::is_dash;
 use files::input::open;
@@ -143,7 +144,7 @@ fn window() -> [u8; 1048576]
 // The verdict's line; and where it was written, 0 for yes and 1 for no on the descriptor `told`, if there is one.
 fn say(verdict: Verdict, told: i32) {
     let mut out = io::buffer();
-    let end = verdict.put(&mut out, 0);
+    let end = put_verdict(&mut out, 0, verdict);
     if !write_block(&mut out, end) {
         return;
     }

@@ -1,6 +1,7 @@
 use Rattle.text.specs.Prelude.{_-_, length}
 use Rattle.text.proofs.Prelude.{needs, arith, so-true, so-false}
-use Rattle.walk.proofs.Turns.{Made, at-start, at-end, few, line, near}
+use Rattle.walk.proofs.Turns.{Made, at-start, at-end, few}
+use Rattle.claim_line.proofs.Asking.{line, near}
 use Rattle.claim.specs.Step.{claimStep}
 use Rattle.claim.specs.declared.Sofar.{Sofar}
 use Rattle.claim.proofs.Stepping.{next-judged, lines-most, stopped}
@@ -21,25 +22,23 @@ fails c =
 
 room : tie.Need-after-requires Inv-loop μ-loop
 room c κs =
-    let loop = c .before .before .before .before .before in
+    let loop = c .before .before .before .before in
     let most = few (λ (k : Sofar). k .lines) lines-most (loop .before .loop .inv) in
     omega (arith, most, loop .loop-test .taken, loop .before .before .before .pre)
 
 nearer : tie.Need-loop-less Inv-loop μ-loop
 nearer c =
-    let got = c .before .before .before in
-    let loop = got .before .before .before in
-    near (loop .loop-test .taken) (loop .before .loop .inv) (got .read-at .ensures)
+    let here = c .before .before in
+    let loop = here .before .before .before in
+    near (loop .loop-test .taken) (loop .before .loop .inv) (here .ask-at .ensures)
 
 again : tie.Need-loop-again Inv-loop μ-loop
 again c =
-    let view = c .before in
-    let got = view .before .before in
-    let asked = got .before .before in
+    let here = c .before .before in
+    let asked = here .before .before in
     let loop = asked .before in
-    line (loop .loop-test .taken) (loop .before .loop .inv) (got .read-at .ensures)
-    (λ n h. next-judged _ _ (so-true (asked .is-yes .ensures) (got .before .if1 .left))
-    (rw (view .view .ensures .bytes) at (c .after .ensures)))
+    line (loop .loop-test .taken) (loop .before .loop .inv) (here .ask-at .ensures)
+    (λ x h. next-judged _ x (so-true (asked .is-yes .ensures) (here .before .if1 .left)) (c .after .ensures) h)
 
 ends : tie.Need-returns-2 Inv-loop μ-loop
 ends c = at-end (c .loop-test .left) (c .before .loop .inv)
@@ -53,7 +52,7 @@ claim-from-spec =
     (λ c. at-start)
     (search needs)
     fails
-    (search needs) (search needs)
+    (search needs)
     room
     nearer
     again

@@ -1,4 +1,4 @@
-use Rattle.text.proofs.Prelude.{needs, sym, _∙_, holds, fails}
+use Rattle.text.proofs.Prelude.{needs, sym, holds, fails}
 use Rattle.claim.specs.Step.{seenAgain}
 use Rattle.claim.proofs.is_again.Statement.{statement}
 use Rattle.claim.proofs.is_again.Tie as tie
@@ -8,6 +8,6 @@ unfolding seenAgain
 is-again-spec =
     tie.close
     (tie.spec
-    (search needs) (search needs)
-    (λ c. sym (holds (sym (c .before .before .begins .ensures) ∙ c .before .if1 .taken) (sym (c .either .ensures))))
-    (λ c. sym (fails _ (sym (c .before .begins .ensures) ∙ c .if1 .left))))
+    (search needs)
+    (λ c. sym (holds (c .before .if1 .taken) (sym (c .either .ensures))))
+    (λ c. sym (fails _ (c .if1 .left))))

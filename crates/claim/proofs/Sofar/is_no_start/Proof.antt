@@ -1,5 +1,4 @@
-use Rattle.text.specs.Prelude.{not}
-use Rattle.text.proofs.Prelude.{needs, sym, ap, yes=, no=, holds, fails}
+use Rattle.text.proofs.Prelude.{refl, sym, yes=, no=, holds, fails}
 use Rattle.claim.specs.Step.{noStart}
 use Rattle.claim.proofs.Sofar.is_no_start.Statement.{statement}
 use Rattle.claim.proofs.Sofar.is_no_start.Tie as tie
@@ -10,5 +9,4 @@ is-no-start-spec =
     tie.close
     (tie.spec
     (λ c. sym (fails _ (no= (c .if1 .taken))))
-    (search needs)
-    (λ c. sym (holds (yes= (c .before .if1 .left)) (ap not (sym (c .begins .ensures))))))
+    (λ c. sym (holds (yes= (c .before .if1 .left)) refl)))

@@ -1,5 +1,4 @@
-use Rattle.text.specs.Prelude.{not}
-use Rattle.text.proofs.Prelude.{needs, refl, sym, ap, _∙_, first, second, yes≤, no≤}
+use Rattle.text.proofs.Prelude.{needs, refl, sym, _∙_, first, second}
 use Rattle.claim.specs.Step.{lineVerdict}
 use Rattle.claim.proofs.Sofar.line_verdict.Statement.{statement}
 use Rattle.claim.proofs.Sofar.line_verdict.Tie as tie
@@ -20,23 +19,23 @@ long : tie.Need-returns-3
 unfolding lineVerdict
 long c =
     let t = c .before in
-    let e2 = t .before in
+    let e2 = t .before .before in
     let e1 = e2 .before .before in
     second _ (sym (e1 .before .is-no-start .ensures) ∙ e1 .if1 .left)
     (second _ (sym (e2 .before .is-out-of-place .ensures) ∙ e2 .if2 .left)
-    (first _ (ap not (no≤ (t .if3 .taken))) (c .no3 .ensures)))
+    (first _ (t .if3 .taken) (c .no3 .ensures)))
 
 refused : tie.Need-returns-4
 unfolding lineVerdict
 refused c =
     let t = c .before in
     let e3 = t .before .before in
-    let e2 = e3 .before in
+    let e2 = e3 .before .before in
     let e1 = e2 .before .before in
     second _ (sym (e1 .before .is-no-start .ensures) ∙ e1 .if1 .left)
     (second _ (sym (e2 .before .is-out-of-place .ensures) ∙ e2 .if2 .left)
-    (second _ (ap not (yes≤ (e3 .if3 .left)))
-    (first _ (ap not (sym (t .before .is-accepted .ensures)) ∙ t .if4 .taken) (c .no4 .ensures))))
+    (second _ (e3 .if3 .left)
+    (first _ (t .if4 .taken) (c .no4 .ensures))))
 
 book : tie.Need-returns-5
 unfolding lineVerdict
@@ -44,13 +43,13 @@ book c =
     let t = c .before in
     let e4 = t .before .before in
     let e3 = e4 .before .before in
-    let e2 = e3 .before in
+    let e2 = e3 .before .before in
     let e1 = e2 .before .before in
     second _ (sym (e1 .before .is-no-start .ensures) ∙ e1 .if1 .left)
     (second _ (sym (e2 .before .is-out-of-place .ensures) ∙ e2 .if2 .left)
-    (second _ (ap not (yes≤ (e3 .if3 .left)))
-    (second _ (ap not (sym (e4 .before .is-accepted .ensures)) ∙ e4 .if4 .left)
-    (first _ (ap not (sym (t .before .is-book .ensures)) ∙ t .if5 .taken) (c .no5 .ensures)))))
+    (second _ (e3 .if3 .left)
+    (second _ (e4 .if4 .left)
+    (first _ (t .if5 .taken) (c .no5 .ensures)))))
 
 time : tie.Need-returns-6
 unfolding lineVerdict
@@ -59,13 +58,13 @@ time c =
     let e5 = t .before .before in
     let e4 = e5 .before .before in
     let e3 = e4 .before .before in
-    let e2 = e3 .before in
+    let e2 = e3 .before .before in
     let e1 = e2 .before .before in
     second _ (sym (e1 .before .is-no-start .ensures) ∙ e1 .if1 .left)
     (second _ (sym (e2 .before .is-out-of-place .ensures) ∙ e2 .if2 .left)
-    (second _ (ap not (yes≤ (e3 .if3 .left)))
-    (second _ (ap not (sym (e4 .before .is-accepted .ensures)) ∙ e4 .if4 .left)
-    (second _ (ap not (sym (e5 .before .is-book .ensures)) ∙ e5 .if5 .left)
+    (second _ (e3 .if3 .left)
+    (second _ (e4 .if4 .left)
+    (second _ (e5 .if5 .left)
     (first _ (sym (t .before .is-second-back .ensures) ∙ t .if6 .taken) (c .no6 .ensures))))))
 
 passed : tie.Need-returns-7
@@ -74,13 +73,13 @@ passed c =
     let e5 = c .before .before in
     let e4 = e5 .before .before in
     let e3 = e4 .before .before in
-    let e2 = e3 .before in
+    let e2 = e3 .before .before in
     let e1 = e2 .before .before in
     second _ (sym (e1 .before .is-no-start .ensures) ∙ e1 .if1 .left)
     (second _ (sym (e2 .before .is-out-of-place .ensures) ∙ e2 .if2 .left)
-    (second _ (ap not (yes≤ (e3 .if3 .left)))
-    (second _ (ap not (sym (e4 .before .is-accepted .ensures)) ∙ e4 .if4 .left)
-    (second _ (ap not (sym (e5 .before .is-book .ensures)) ∙ e5 .if5 .left)
+    (second _ (e3 .if3 .left)
+    (second _ (e4 .if4 .left)
+    (second _ (e5 .if5 .left)
     (second _ (sym (c .before .is-second-back .ensures) ∙ c .if6 .left) refl)))))
 
 pub line-verdict-spec : {M : Type 1} → statement M
@@ -93,9 +92,9 @@ line-verdict-spec =
     table
     (search needs)
     long
-    (search needs) (search needs)
+    (search needs)
     refused
-    (search needs) (search needs)
+    (search needs)
     book
     (search needs) (search needs)
     time

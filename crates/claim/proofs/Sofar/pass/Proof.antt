@@ -7,18 +7,15 @@ returns : tie.Need-returns
 unfolding passed
 returns c =
     let b = c .before .before in
-    let j = b .before .before in
-    let i = j .before .before in
-    let back = i .before .before in
+    let j = b .before in
+    let i = j .before in
+    let back = i .before in
     rw (
       back .either .ensures,
       back .before .goes-back .ensures,
       i .either2 .ensures,
-      i .before .begins .ensures,
       j .either3 .ensures,
-      j .before .begins2 .ensures,
       b .either4 .ensures,
-      b .before .begins3 .ensures,
       c .last-with .ensures,
     )
 
@@ -27,5 +24,4 @@ pass-spec =
     tie.close
     (tie.spec
     (search needs) (search needs) (search needs) (search needs) (search needs) (search needs) (search needs)
-    (search needs) (search needs) (search needs)
     returns)

@@ -1,7 +1,7 @@
 use Rattle.text.proofs.Prelude.{needs}
-use Rattle.claim.specs.Rules.{isBook}
-use Rattle.claim.proofs.is_book.Statement.{statement}
-use Rattle.claim.proofs.is_book.Tie as tie
+use Rattle.claim_line.specs.Asked.{isBook}
+use Rattle.claim_line.proofs.is_book.Statement.{statement}
+use Rattle.claim_line.proofs.is_book.Tie as tie
 
 pub is-book-spec : {M : Type 1} → statement M
 unfolding isBook

@@ -2,9 +2,9 @@ use Rattle.text.specs.Prelude.{_≡_, false, numberOf, _=?_}
 use Rattle.text.proofs.Prelude.{needs, refl}
 use Rattle.text.specs.declared.refusal.Refusal.{Refusal}
 use Rattle.records.specs.Record.{answered}
-use Rattle.claim.specs.Rules.{isAccepted}
-use Rattle.claim.proofs.is_accepted.Statement.{statement}
-use Rattle.claim.proofs.is_accepted.Tie as tie
+use Rattle.claim_line.specs.Asked.{isAccepted}
+use Rattle.claim_line.proofs.is_accepted.Statement.{statement}
+use Rattle.claim_line.proofs.is_accepted.Tie as tie
 
 -- no refusal has the number 0
 numbered : (n : Refusal) → false ≡ (numberOf n =? 0)

@@ -1,9 +1,9 @@
 use Rattle.text.proofs.Prelude.{needs}
 use Rattle.text.specs.Spelt.{speltFrom, spelt}
 use Rattle.put.proofs.Writing.{then}
-use Rattle.claim.specs.Text.{verdictText}
-use Rattle.claim.proofs.verdict.Verdict.put.Statement.{statement}
-use Rattle.claim.proofs.verdict.Verdict.put.Tie as tie
+use Rattle.claim_text.specs.Text.{verdictText}
+use Rattle.claim_text.proofs.put_verdict.Statement.{statement}
+use Rattle.claim_text.proofs.put_verdict.Tie as tie
 
 yes : tie.Need-returns
 unfolding verdictText spelt speltFrom
@@ -11,10 +11,10 @@ yes c = let put = c .before .before in rw (put .before .before .before .enum-tol
 
 no : tie.Need-returns-2
 unfolding verdictText
-no c = let e : tie.After-self = search needs in rw (e .self .given .1) (search (then))
+no c = let e : tie.After-verdict = search needs in rw (e .verdict .given .1) (search (then))
 
-pub put-spec : {M : Type 1} → statement M
-put-spec =
+pub put-verdict-spec : {M : Type 1} → statement M
+put-verdict-spec =
     tie.close
     (tie.spec
     (search needs) (search needs) (search needs) (search needs) (search needs) (search needs) (search needs)

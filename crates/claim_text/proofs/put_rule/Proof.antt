@@ -1,12 +1,12 @@
 use Rattle.text.proofs.Prelude.{needs}
 use Rattle.text.specs.Spelt.{speltFrom, spelt}
-use Rattle.claim.specs.Text.{ruleText}
-use Rattle.claim.proofs.verdict.Rule.put.Statement.{statement}
-use Rattle.claim.proofs.verdict.Rule.put.Tie as tie
+use Rattle.claim_text.specs.Text.{ruleText}
+use Rattle.claim_text.proofs.put_rule.Statement.{statement}
+use Rattle.claim_text.proofs.put_rule.Tie as tie
 
-pub put-spec : {M : Type 1} → statement M
+pub put-rule-spec : {M : Type 1} → statement M
 unfolding ruleText spelt speltFrom
-put-spec =
+put-rule-spec =
     tie.close
     (tie.spec
     (search needs) (search needs) (search needs) (search needs) (search needs) (search needs)
