@@ -21,10 +21,11 @@ use Rattle.log.proofs.Taking.{took-called, none-called}
 use Rattle.report.specs.Figures.{Figures}
 use Rattle.report.specs.Report.{belowPressure, belowGps, takenBy, pressureIn, gpsIn, figuresIn}
 use Rattle.report.specs.declared.{Report.Report, pressure.PressurePeak.PressurePeak, gps.GpsPeak.GpsPeak}
-use Rattle.watch_text.specs.Watch.{raised, pressureRise, gpsRise, Running, risen, watcher, watchLine, watchLineOf}
+use Rattle.rise_text.specs.Rise.{raised, pressureRise, gpsRise}
+use Rattle.rise_text.specs.declared.{pressure.PressureRise.PressureRise, gps.GpsRise.GpsRise}
+use Rattle.watch_text.specs.Watch.{Running, risen, watcher, watchLine, watchLineOf}
 use Rattle.watch_text.specs.Feed.{Nothing, noStep, view, isReady, WatchedOf, Watches}
-use Rattle.watch_text.specs.declared.{Watch.Watch, Watched.Watched, pressure.PressureRise.PressureRise}
-use Rattle.watch_text.specs.declared.gps.GpsRise.{GpsRise}
+use Rattle.watch_text.specs.declared.{Watch.Watch, Watched.Watched}
 
 -- Where a piece is ready neither the place nor the number passes 64 bits over its bytes.
 pub within-64-bits : (c : Carried Running Nothing) (n : ℕ) → isReady c n ≡ true →

@@ -1,8 +1,5 @@
 // A log watched, in pieces: a line wherever the running summit of a datum rises goes into lent bytes, and what is
 // carried goes on to the next piece.
-pub mod gps;
-pub mod pressure;
-
 ghost use mathlib.Core.Path.{_≡_};
 ghost use mathlib.Core.Bool.{true};
 ghost use Prim.Native.Nat.{_+_, _≤_, _<_};
@@ -12,12 +9,12 @@ ghost use Rattle.put.specs.Put.{Wrote};
 ghost use Rattle.log.specs.Fold.{pastLine};
 ghost use Rattle.watch_text.specs.Watch.{watcher, watchLine};
 ghost use Rattle.watch_text.specs.Feed.{runningIn, noStep, view, atFirst, isReady, WatchedOf, Watches};
-use crate::gps::GpsRise;
-use crate::pressure::PressureRise;
 use cursor::Cursor;
 use log::cut_at;
 use records::Record;
 use report::Report;
+use rise_text::gps::GpsRise;
+use rise_text::pressure::PressureRise;
 
 // What goes from piece to piece: the report so far, where it stands, and what the last line raised.
 pub struct Watch {

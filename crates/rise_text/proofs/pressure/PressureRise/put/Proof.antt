@@ -1,9 +1,9 @@
 use Rattle.text.proofs.Prelude.{needs, arith}
 use Rattle.text.specs.Spelt.{speltFrom, spelt}
 use Rattle.put.proofs.Writing.{then, wrote-nothing}
-use Rattle.watch_text.specs.Watch.{riseText, pressureLine}
-use Rattle.watch_text.proofs.pressure.PressureRise.put.Statement.{statement}
-use Rattle.watch_text.proofs.pressure.PressureRise.put.Tie as tie
+use Rattle.rise_text.specs.Rise.{riseText, pressureLine}
+use Rattle.rise_text.proofs.pressure.PressureRise.put.Statement.{statement}
+use Rattle.rise_text.proofs.pressure.PressureRise.put.Tie as tie
 
 same : tie.Need-returns
 unfolding pressureLine

@@ -2,7 +2,7 @@
 ghost use mathlib.Core.Path.{_≡_};
 ghost use Rattle.put.specs.Put.{Wrote};
 ghost use Rattle.report.specs.Report.{belowGps, gpsIn};
-ghost use Rattle.watch_text.specs.Watch.{raised, gpsRise, gpsLine};
+ghost use Rattle.rise_text.specs.Rise.{raised, gpsRise, gpsLine};
 use b_record::GpsAlt;
 use print::number::put_nat;
 use put::put_byte;
@@ -25,7 +25,7 @@ fn is_below(summit: GpsPeak, other: GpsPeak) -> bool
 
 impl GpsRise {
     // From the heights before a line to those after it.
-    pub(crate) fn between(before: GpsRange, now: GpsRange) -> GpsRise
+    pub fn between(before: GpsRange, now: GpsRange) -> GpsRise
         ensures { λ r. ⌜ r ≡ gpsRise (raised belowGps (gpsIn before) (gpsIn now)) ⌝ }
     {
         match now {
@@ -49,7 +49,7 @@ impl GpsRise {
     }
 
     // The line of it.
-    pub(crate) fn put(self, buf: &mut [u8], at: usize, number: u64) -> usize
+    pub fn put(self, buf: &mut [u8], at: usize, number: u64) -> usize
         ensures { λ r. ⌜ Wrote (now (buf .entry)) at (gpsLine number self) (now (buf .exit)) r ⌝ }
     {
         match self {

@@ -2,7 +2,7 @@
 ghost use mathlib.Core.Path.{_≡_};
 ghost use Rattle.put.specs.Put.{Wrote};
 ghost use Rattle.report.specs.Report.{belowPressure, pressureIn};
-ghost use Rattle.watch_text.specs.Watch.{raised, pressureRise, pressureLine};
+ghost use Rattle.rise_text.specs.Rise.{raised, pressureRise, pressureLine};
 use b_record::PressureAlt;
 use print::number::put_nat;
 use put::put_byte;
@@ -25,7 +25,7 @@ fn is_below(summit: PressurePeak, other: PressurePeak) -> bool
 
 impl PressureRise {
     // From the heights before a line to those after it.
-    pub(crate) fn between(before: PressureRange, now: PressureRange) -> PressureRise
+    pub fn between(before: PressureRange, now: PressureRange) -> PressureRise
         ensures { λ r. ⌜ r ≡ pressureRise (raised belowPressure (pressureIn before) (pressureIn now)) ⌝ }
     {
         match now {
@@ -49,7 +49,7 @@ impl PressureRise {
     }
 
     // The line of it.
-    pub(crate) fn put(self, buf: &mut [u8], at: usize, number: u64) -> usize
+    pub fn put(self, buf: &mut [u8], at: usize, number: u64) -> usize
         ensures { λ r. ⌜ Wrote (now (buf .entry)) at (pressureLine number self) (now (buf .exit)) r ⌝ }
     {
         match self {

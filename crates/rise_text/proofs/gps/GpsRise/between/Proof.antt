@@ -1,8 +1,8 @@
 use Rattle.text.specs.Prelude.{pick}
 use Rattle.text.proofs.Prelude.{needs, sym, _∙_}
-use Rattle.watch_text.specs.Watch.{raised, gpsRise}
-use Rattle.watch_text.proofs.gps.GpsRise.between.Statement.{statement}
-use Rattle.watch_text.proofs.gps.GpsRise.between.Tie as tie
+use Rattle.rise_text.specs.Rise.{raised, gpsRise}
+use Rattle.rise_text.proofs.gps.GpsRise.between.Statement.{statement}
+use Rattle.rise_text.proofs.gps.GpsRise.between.Tie as tie
 
 above : tie.Need-returns
 unfolding raised gpsRise pick
