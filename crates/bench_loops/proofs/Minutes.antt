@@ -3,8 +3,9 @@ use Rattle.text.specs.Prelude.{ℕ, _+_, _≡_, List}
 use Rattle.text.proofs.Prelude.{_∙_}
 use native.Mathlib.Numerals.{add-one}
 use Rattle.time.specs.Time.{timeOf}
+use Rattle.moment_fix.specs.declared.Moment.{Moment}
+use Rattle.hours.specs.declared.Index.{Index}
 use Rattle.moment.specs.Moment.{indexOf, byIndex, byWalk}
-use Rattle.moment.specs.declared.{Index.Index, Moment.Moment}
 use Rattle.moment.proofs.Laws.{moments}
 use Rattle.bench_loops.specs.Timed.{summed}
 use Rattle.bench_loops.specs.Moments.{ofMoment, momentSum}

@@ -1,8 +1,10 @@
 -- What is timed of moments: what an index holds for an hour, and a question for each minute of one.
 use Rattle.text.specs.Prelude.{ℕ, zero, suc, List}
 use Rattle.time.specs.Time.{timeOf}
-use Rattle.moment.specs.Moment.{indexOf, heldFor, byWalk}
-use Rattle.moment.specs.declared.{First.First, Moment.Moment}
+use Rattle.moment_fix.specs.declared.Moment.{Moment}
+use Rattle.hours.specs.Hours.{heldFor}
+use Rattle.hours.specs.declared.First.{First}
+use Rattle.moment.specs.Moment.{indexOf, byWalk}
 use Rattle.bench_loops.specs.Timed.{summed}
 
 -- The place that is held; for none 0.

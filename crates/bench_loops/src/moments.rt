@@ -2,10 +2,11 @@
 // and by a walk from its start. The two have one answer.
 ghost use mathlib.Core.Path.{_≡_};
 ghost use Rattle.bench_loops.specs.Moments.{ofFirst, ofMoment, indexPlace, momentSum};
-use moment::First;
-use moment::Index;
-use moment::Moment;
+use hours::First;
+use moment::find;
 use moment::find_by_walk;
+use moment::index_of;
+use moment_fix::Moment;
 use std::num::wrapping_add_u64;
 
 fn of_first(first: First) -> u64
@@ -32,7 +33,7 @@ fn of_moment(answer: Moment) -> u64
 pub extern "C" fn timed_index(log: &[u8], hours: u8) -> u64
     ensures { λ r. ⌜ r ≡ indexPlace (now (log .entry)) hours ⌝ }
 {
-    let index = Index::of_log(log);
+    let index = index_of(log);
     let hour = hours as usize;
     if hour < 25 {
         let held = index.hours[hour];
@@ -47,11 +48,11 @@ pub extern "C" fn timed_index(log: &[u8], hours: u8) -> u64
 pub extern "C" fn timed_moments(log: &[u8], hours: u8, seconds: u8) -> u64
     ensures { λ r. ⌜ r ≡ momentSum 60 (now (log .entry)) hours seconds ⌝ }
 {
-    let index = Index::of_log(log);
+    let index = index_of(log);
     let mut sum: u64 = 0;
     let mut minutes: u8 = 0;
     while minutes < 60 {
-        let answer = index.find(log, hours, minutes, seconds);
+        let answer = find(index, log, hours, minutes, seconds);
         sum = wrapping_add_u64(sum, of_moment(answer));
         minutes += 1;
     }

@@ -1,5 +1,5 @@
 -- The loop that makes an index: at each place it holds, for each hour, what the lines before that place have.
-use Rattle.text.specs.Prelude.{ℕ, zero, suc, _+_, _-_, _≤_, _<_, _≡_, true, false, List, [], _∷_, length, getD, set}
+use Rattle.text.specs.Prelude.{ℕ, _+_, _-_, _≤_, _<_, _≡_, true, false, List, [], _∷_, length, set}
 use Rattle.text.specs.Prelude.{_≤?_, _=?_, _∧?_, pick}
 use Rattle.text.proofs.Prelude.{arith, refl, sym, ap, _∙_, first, second, yes≤, yes=, no=, is≤, is=, by-test, both}
 use Rattle.text.proofs.Prelude.{never, holds}
@@ -14,36 +14,11 @@ use Rattle.walk.specs.Readings.{Line-read, reader}
 use Rattle.walk.specs.Turn.{gotAt}
 use Rattle.walk.specs.declared.turn.Got.{Got}
 use Rattle.walk.proofs.Turns.{Made, at-start, at-end, line, near}
-use Rattle.moment.specs.Moment.{inHour, hourAt, held, from, byHour, indexOf, heldFor, nowhere, hourOf, isNowhere}
-use Rattle.moment.specs.Moment.{lacks}
-use Rattle.moment.specs.declared.{First.First, Hour.Hour, Index.Index}
-
--- ---- a value for each hour
-
-length-from : (k h : ℕ) (f : ℕ → Option ℕ) → length (from k h f) ≡ k
-unfolding from
-length-from zero h f = refl
-length-from (suc k) h f = ap suc (length-from k (h + 1) f)
-
-getD-from : (k h : ℕ) (f : ℕ → Option ℕ) (j : ℕ) → j < k → getD (from k h f) j (held none) ≡ held (f (h + j))
-unfolding from
-getD-from zero h f j i = absurd (omega arith)
-getD-from (suc k) h f zero i = let e : h ≡ h + 0 = omega arith in ap (λ (n : ℕ). held (f n)) e
-getD-from (suc k) h f (suc j) i =
-    let e : h + 1 + j ≡ h + suc j = omega arith in rw e at (getD-from k (h + 1) f j (omega arith))
-
-from-same : (k h : ℕ) (f g : ℕ → Option ℕ) → ((j : ℕ) → j < h + k → f j ≡ g j) → from k h f ≡ from k h g
-unfolding from
-from-same zero h f g e = refl
-from-same (suc k) h f g e = rw (e h (omega arith), from-same k (h + 1) f g (λ j i. e j (omega arith)))
-
--- the index that holds f of each hour
-getD-hour : (f : ℕ → Option ℕ) (h : ℕ) → h < 25 → getD (from 25 0 f) h (held none) ≡ held (f h)
-getD-hour f h i = getD-from 25 0 f h i ∙ ap (λ (n : ℕ). held (f n)) (omega arith)
-
-pub held-hour : (f : ℕ → Option ℕ) (h : ℕ) → h < 25 → heldFor (byHour f) h ≡ held (f h) .first
-unfolding heldFor byHour
-held-hour f h i = ap (λ (x : Hour). x .first) (getD-hour f h i)
+use Rattle.moment_fix.specs.Fix.{hourOf}
+use Rattle.hours.specs.Hours.{held, from, byHour, nowhere, isNowhere, lacks}
+use Rattle.hours.specs.declared.{First.First, Hour.Hour, Index.Index}
+use Rattle.hours.proofs.ByHour.{length-from, from-same, getD-hour, held-hour, nothing-held}
+use Rattle.moment.specs.Moment.{inHour, hourAt, indexOf}
 
 -- ---- a line more
 
@@ -72,11 +47,6 @@ other-hour : (m : MaybeFix) (p h : ℕ) → (hourOf m ≡ h → ⊥) → inHour 
 unfolding hourOf inHour
 other-hour (MaybeFix.Fix b) p h e = sym (second _ (no= e) refl)
 other-hour MaybeFix.Missing p h e = refl
-
-nothing-held : (a : Option ℕ) → isNowhere (held a .first) ≡ true → a ≡ none
-unfolding isNowhere held
-nothing-held none e = refl
-nothing-held (some p) e = never e refl
 
 held-stays : (a b : Option ℕ) → isNowhere (held a .first) ≡ false → orElse a b ≡ a
 unfolding isNowhere held orElse
@@ -128,11 +98,6 @@ module _ (f : ℕ → Option ℕ) (p : ℕ) (m : MaybeFix) where
       by-test (hourOf m =? j)
       (λ q. rw (sym (is= q)) (sym (has (omega (arith, is= q)) e)))
       (λ q. sym (stays j (λ k. never (yes= k) q)))))
-
--- what an index lacks is one of its hours
-pub lacks-inside : (i : Index) (h : ℕ) → lacks i h ≡ true → h < 25
-unfolding lacks
-lacks-inside i h l = omega (arith, is≤ (both l .0))
 
 -- ---- the loop
 

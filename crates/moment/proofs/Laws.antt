@@ -15,10 +15,12 @@ use Rattle.log.specs.Fold.{orElse, firstWith}
 use Rattle.log.proofs.Cuts.{next-gt, read-past}
 use Rattle.held.specs.declared.tables.Tables.{Tables}
 use Rattle.walk.specs.Readings.{Line-read, reader}
-use Rattle.moment.specs.Moment.{inHour, hourAt, held, indexOf, heldFor, sameTime, withTime, spotAt}
-use Rattle.moment.specs.Moment.{fixAt, foundFrom, foundBy, found, asked, byIndex, byWalk}
+use Rattle.moment_fix.specs.Fix.{sameTime, withTime}
+use Rattle.hours.specs.Hours.{held, heldFor}
+use Rattle.hours.proofs.ByHour.{held-hour}
+use Rattle.moment.specs.Moment.{inHour, hourAt, indexOf, spotAt, fixAt, foundFrom, foundBy, found, asked}
+use Rattle.moment.specs.Moment.{byIndex, byWalk}
 use Rattle.moment.specs.Laws.{Moments}
-use Rattle.moment.proofs.Hours.{held-hour}
 use Rattle.moment.proofs.Searching.{readHere, lineHere, first-here, first-past}
 
 -- ---- something or nothing

@@ -16,7 +16,8 @@ use Rattle.walk.specs.Readings.{Line-read, reader}
 use Rattle.walk.specs.Turn.{gotAt}
 use Rattle.walk.specs.declared.turn.Got.{Got}
 use Rattle.walk.proofs.Laws.{viewed}
-use Rattle.moment.specs.Moment.{withTime, spotAt, fixAt, foundFrom}
+use Rattle.moment_fix.specs.Fix.{withTime}
+use Rattle.moment.specs.Moment.{spotAt, fixAt, foundFrom}
 
 -- what is read from a place on, with n lines before it and the tables t
 abbrev pub readHere : List ℕ → ℕ → ℕ → Tables → List Line-read

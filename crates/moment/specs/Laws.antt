@@ -2,8 +2,10 @@
 use Rattle.text.specs.Prelude.{ℕ, _≤_, _≡_, List, length, Res, ok}
 use Rattle.time.specs.Time.{timeOf}
 use Rattle.time.specs.declared.Time.{Time}
-use Rattle.moment.specs.Moment.{indexOf, heldFor, byIndex, byWalk}
-use Rattle.moment.specs.declared.{First.First, Index.Index, Moment.Moment}
+use Rattle.moment_fix.specs.declared.Moment.{Moment}
+use Rattle.hours.specs.Hours.{heldFor}
+use Rattle.hours.specs.declared.{First.First, Index.Index}
+use Rattle.moment.specs.Moment.{indexOf, byIndex, byWalk}
 
 pub record Moments : Type 0 where
   -- For every log and every time, also one that is refused: the first fix with that hour, minute and second in the

@@ -1,6 +1,5 @@
 -- The index of a log by hours, and the fix at a moment: by an index, and by the plain walk from the log's start.
-use Rattle.text.specs.Prelude.{ℕ, zero, suc, _+_, Bool, List, [], _∷_, drop, getD, replicate, Res, ok, no, pick}
-use Rattle.text.specs.Prelude.{true, false, numberOf, _≤?_, _=?_, _∧?_}
+use Rattle.text.specs.Prelude.{ℕ, List, drop, Res, ok, no, pick, _=?_}
 use mathlib.Core.Option.{Option, none, some}
 use Rattle.time.specs.declared.Time.{Time}
 use Rattle.b_record.specs.declared.BRecord.{BRecord}
@@ -9,7 +8,10 @@ use Rattle.records.specs.declared.MaybeFix.{MaybeFix}
 use Rattle.log.specs.Log.{chunks, readFrom, readings}
 use Rattle.log.specs.Fold.{firstWith}
 use Rattle.walk.specs.Readings.{Line-read, reader}
-use Rattle.moment.specs.declared.{First.First, Hour.Hour, Index.Index, Moment.Moment}
+use Rattle.moment_fix.specs.Fix.{withTime}
+use Rattle.moment_fix.specs.declared.Moment.{Moment}
+use Rattle.hours.specs.Hours.{byHour, heldFor}
+use Rattle.hours.specs.declared.{First.First, Index.Index}
 
 -- ---- the index
 
@@ -22,27 +24,9 @@ inHour h p MaybeFix.Missing = none
 unfoldable pub hourAt : ℕ → Line-read → Option ℕ
 hourAt h x = inHour h (x .place) (answerFix (x .answer))
 
--- A place, or none, as an index holds it.
-unfoldable pub held : Option ℕ → Hour
-held none = record { first = First.Nowhere }
-held (some p) = record { first = First.At p }
-
--- f of each of the k hours from h on.
-unfoldable pub from : ℕ → ℕ → (ℕ → Option ℕ) → List Hour
-from zero h f = []
-from (suc k) h f = held (f h) ∷ from k (h + 1) f
-
--- f of each hour 0 to 24.
-unfoldable pub byHour : (ℕ → Option ℕ) → Index
-byHour f = record { hours = from 25 0 f }
-
 -- For each hour the place of the first accepted B line of the log in that hour, or none.
 unfoldable pub indexOf : List ℕ → Index
 indexOf log = byHour (λ h. firstWith (hourAt h) (readings reader log))
-
--- What any index holds for an hour; for one over 24 nothing.
-unfoldable pub heldFor : Index → ℕ → First
-heldFor i h = getD (i .hours) h (held none) .first
 
 -- ---- the question
 
@@ -50,15 +34,6 @@ heldFor i h = getD (i .hours) h (held none) .first
 pub record Spot : Type 0 where
   pub place : ℕ
   pub fix : BRecord
-
--- Hours, minutes and seconds are the same.
-unfoldable pub sameTime : Time → Time → Bool
-sameTime a b = (a .hours =? b .hours) ∧? (a .minutes =? b .minutes) ∧? (a .seconds =? b .seconds)
-
--- A fix, marked A or V, if it has that time.
-unfoldable pub withTime : Time → MaybeFix → MaybeFix
-withTime t (MaybeFix.Fix b) = pick (sameTime (b .timestamp) t) (MaybeFix.Fix b) MaybeFix.Missing
-withTime t MaybeFix.Missing = MaybeFix.Missing
 
 -- A fix with its place p.
 unfoldable pub spotAt : ℕ → MaybeFix → Option Spot
@@ -96,29 +71,3 @@ byIndex i log m = asked m (λ t. foundBy t (heldFor i (t .hours)) log)
 -- The answer of the plain walk: the first in the whole log.
 unfoldable pub byWalk : List ℕ → Res Time → Moment
 byWalk log m = asked m (λ t. firstWith (fixAt t) (readings reader log))
-
--- 0, the number of the time's refusal (4 of `from_hms`), or 19 no such fix.
-unfoldable pub momentNumber : Moment → ℕ
-momentNumber (Moment.Found p b) = 0
-momentNumber Moment.NoSuchFix = 19
-momentNumber (Moment.Refused n) = numberOf n
-
--- ---- the steps of the code
-
--- The index of no log.
-unfoldable pub nowhere : Index
-nowhere = record { hours = replicate 25 (held none) }
-
--- The hours of a fix; of a line that is none 25.
-unfoldable pub hourOf : MaybeFix → ℕ
-hourOf (MaybeFix.Fix b) = b .timestamp .hours
-hourOf MaybeFix.Missing = 25
-
--- It is no place.
-unfoldable pub isNowhere : First → Bool
-isNowhere First.Nowhere = true
-isNowhere (First.At p) = false
-
--- An hour 0 to 24 for which an index holds no place.
-unfoldable pub lacks : Index → ℕ → Bool
-lacks i h = (h + 1 ≤? 25) ∧? isNowhere (heldFor i h)

@@ -6,8 +6,8 @@ use Rattle.text.specs.declared.refusal.Refusal.the-variants.{NotAscii, WrongLen
 use Rattle.field.specs.Field.{sized, asciiIn, ascii, field}
 use Rattle.three.specs.Three.{readThree}
 use Rattle.time.specs.Time.{readTime}
+use Rattle.hours.specs.declared.Index.{Index}
 use Rattle.moment.specs.Moment.{indexOf, byIndex}
-use Rattle.moment.specs.declared.Index.{Index}
 use Rattle.moment.proofs.Laws.{hours-fit, moments}
 use Rattle.moment_text.specs.Answers.{momentLine, sixes, wordsIn, answerLine}
 

@@ -5,8 +5,9 @@ use Rattle.time.specs.Time.{readTime}
 use Rattle.b_record.specs.BRecord.{pressureText, gpsText}
 use Rattle.b_record.specs.declared.BRecord.{BRecord}
 use Rattle.log.specs.Fold.{texts}
-use Rattle.moment.specs.Moment.{byWalk, momentNumber}
-use Rattle.moment.specs.declared.Moment.{Moment}
+use Rattle.moment_fix.specs.Fix.{momentNumber}
+use Rattle.moment_fix.specs.declared.Moment.{Moment}
+use Rattle.moment.specs.Moment.{byWalk}
 use Rattle.piece_text.specs.Piece.{numberShown}
 
 -- A time is asked for by six digits.

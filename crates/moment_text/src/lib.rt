@@ -6,8 +6,10 @@ ghost use Rattle.moment.specs.Moment.{byIndex};
 ghost use Rattle.moment_text.specs.Answers.{isAsked, heightsText, foundText, momentLine, momentsText};
 use b_record::BRecord;
 use field::all_digits;
-use moment::Index;
-use moment::Moment;
+use hours::Index;
+use moment::answer;
+use moment::index_of;
+use moment_fix::Moment;
 use piece_text::piece::show_number;
 use put::put_byte;
 use put::put_bytes;
@@ -65,8 +67,8 @@ fn put_answer(buf: &mut [u8], at: usize, index: Index, log: &[u8], word: &[u8]) 
         (momentLine (now (word .entry)) (byIndex index (now (log .entry)) (readTime (now (word .entry)))))
         (now (buf .exit)) r ⌝ }
 {
-    let answer = index.answer(log, Time::parse(word));
-    put_line(buf, at, word, answer)
+    let found = answer(index, log, Time::parse(word));
+    put_line(buf, at, word, found)
 }
 
 // The lines of times of six bytes each, in their order: the answers of the plain walk, by the log's own index.
@@ -74,7 +76,7 @@ pub fn put_moments(buf: &mut [u8], at: usize, log: &[u8], words: &[u8]) -> usize
     ensures { λ r. ⌜ Wrote (now (buf .entry)) at (momentsText (now (log .entry)) (now (words .entry)))
         (now (buf .exit)) r ⌝ }
 {
-    let index = Index::of_log(log);
+    let index = index_of(log);
     let count = words.len() / 6;
     let mut end = at;
     let mut i = 0;

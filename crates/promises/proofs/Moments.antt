@@ -8,8 +8,9 @@ use Rattle.records.specs.declared.MaybeFix.{MaybeFix}
 use Rattle.log.specs.Log.{readings}
 use Rattle.log.specs.Fold.{orElse, firstWith}
 use Rattle.walk.specs.Readings.{Line-read, reader}
-use Rattle.moment.specs.Moment.{sameTime, withTime, spotAt, fixAt, found, asked, byWalk}
-use Rattle.moment.specs.declared.Moment.{Moment}
+use Rattle.moment_fix.specs.Fix.{sameTime, withTime}
+use Rattle.moment_fix.specs.declared.Moment.{Moment}
+use Rattle.moment.specs.Moment.{spotAt, fixAt, found, asked, byWalk}
 use Rattle.moment.proofs.Laws.{moments}
 use Rattle.promises.specs.Moments.{Has, Hasnt, here, later, Tells, Moments}
 

@@ -7,8 +7,8 @@ use Rattle.records.specs.Record.{answerFix}
 use Rattle.records.specs.declared.MaybeFix.{MaybeFix}
 use Rattle.log.specs.Log.{readings}
 use Rattle.walk.specs.Readings.{Line-read, reader}
+use Rattle.moment_fix.specs.declared.Moment.{Moment}
 use Rattle.moment.specs.Moment.{indexOf, byIndex}
-use Rattle.moment.specs.declared.Moment.{Moment}
 
 -- The reading is an accepted B line, b, with those hours, minutes and seconds.
 pub record Has (t : Time) (x : Line-read) (b : BRecord) : Type 0 where

@@ -1,5 +1,6 @@
 use Rattle.text.specs.Prelude.{_-_, length}
 use Rattle.text.proofs.Prelude.{needs, sym, ap, _∙_}
+use Rattle.moment_fix.specs.Fix.{withTime}
 use Rattle.moment.specs.Moment.{found}
 use Rattle.moment.proofs.Searching.{Left, left-all, left-none, left-found, left-next, nearer}
 use Rattle.moment.proofs.search.Statement.{statement}
@@ -14,23 +15,23 @@ abbrev μ-loop : tie.MeasureT-loop
 returns : tie.Need-returns Inv-loop μ-loop
 unfolding found
 returns c =
-    let fix = c .before in
-    let tested = fix .before .before in
-    let read = tested .before in
+    let found-here = c .before in
+    let asked = found-here .before .before in
+    let read = asked .before .before in
     ap found (left-found (read .before .before .loop .inv) (read .before .loop-test .taken) (read .read-at .ensures)
-    (sym (fix .fix .given .1) ∙ tested .with-time .ensures))
+    (sym (found-here .fix2 .given .1) ∙ asked .with-time .ensures ∙ ap (withTime _) (asked .before .fix .ensures)))
 
 loop-less : tie.Need-loop-less Inv-loop μ-loop
 loop-less c =
-    let read = c .before .before .before in
+    let read = c .before .before .before .before in
     nearer (read .before .before .loop .inv) (read .before .loop-test .taken) (read .read-at .ensures)
 
 loop-again : tie.Need-loop-again Inv-loop μ-loop
 loop-again c =
-    let tested = c .before .before in
-    let read = tested .before in
+    let asked = c .before .before in
+    let read = asked .before .before in
     left-next (read .before .before .loop .inv) (read .before .loop-test .taken) (read .read-at .ensures)
-    (sym (c .enum-told .given .1) ∙ tested .with-time .ensures)
+    (sym (c .enum-told .given .1) ∙ asked .with-time .ensures ∙ ap (withTime _) (asked .before .fix .ensures))
 
 returns-2 : tie.Need-returns-2 Inv-loop μ-loop
 unfolding found
@@ -43,7 +44,7 @@ search-spec =
     Inv-loop
     μ-loop
     (λ c. left-all)
-    (search needs) (search needs) (search needs)
+    (search needs) (search needs) (search needs) (search needs)
     returns
     (search needs)
     loop-less

@@ -32,7 +32,7 @@ again c =
       omega arith,
       in-turn (answerLine (now (a .log))) (wordsIn (now (a .words))) i (word-at (now (a .words)) i (omega arith))
           (o .loop .inv .1)
-          (rw (six, own-answer (now (a .log)) (take 6 (drop (6 * i) (now (a .words)))) (o .before .of-log .ensures))
+          (rw (six, own-answer (now (a .log)) (take 6 (drop (6 * i) (now (a .words)))) (o .before .index-of .ensures))
           at (put .put-answer .ensures)),
     )
 

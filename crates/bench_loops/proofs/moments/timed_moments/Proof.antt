@@ -20,7 +20,7 @@ again c =
     let of = c .before in
     let find = of .before in
     let l = find .before .before in
-    let own = by-own-index _ _ (l .loop .minutes) _ (l .before .of-log .ensures) (find .find .ensures) in (
+    let own = by-own-index _ _ (l .loop .minutes) _ (l .before .index-of .ensures) (find .find .ensures) in (
       omega arith,
       minute-more _ _ _ (l .loop .minutes) (l .loop .inv .1) own (of .of-moment .ensures)
           (c .wrapping-add-u64 .ensures),

@@ -1,7 +1,7 @@
 use Rattle.text.proofs.Prelude.{needs, sym}
 use Rattle.moment.specs.Moment.{foundBy, found, asked, byIndex}
-use Rattle.moment.proofs.Index.answer.Statement.{statement}
-use Rattle.moment.proofs.Index.answer.Tie as tie
+use Rattle.moment.proofs.answer.Statement.{statement}
+use Rattle.moment.proofs.answer.Tie as tie
 
 refused : tie.Need-returns
 unfolding byIndex asked

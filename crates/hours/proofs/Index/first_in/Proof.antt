@@ -2,10 +2,10 @@ use Rattle.text.specs.Prelude.{_≡_, length}
 use Rattle.text.proofs.Prelude.{needs, arith, refl, sym, ap}
 use lib.ListN.{List·getD-eq-default}
 use Rattle.table.proofs.Defs.{long-under}
-use Rattle.moment.specs.Moment.{held, heldFor}
-use Rattle.moment.specs.declared.Hour.{Hour}
-use Rattle.moment.proofs.Index.first_in.Statement.{statement}
-use Rattle.moment.proofs.Index.first_in.Tie as tie
+use Rattle.hours.specs.Hours.{held, heldFor}
+use Rattle.hours.specs.declared.Hour.{Hour}
+use Rattle.hours.proofs.Index.first_in.Statement.{statement}
+use Rattle.hours.proofs.Index.first_in.Tie as tie
 
 none : tie.Need-returns-2
 unfolding heldFor held

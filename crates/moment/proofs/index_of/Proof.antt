@@ -1,11 +1,11 @@
 use Rattle.text.specs.Prelude.{_-_, _<_, _≡_, length, now}
 use Rattle.text.proofs.Prelude.{needs, arith, sym, ap, _∙_}
 use Rattle.records.specs.Record.{answerFix, readingRes}
-use Rattle.moment.specs.Moment.{hourOf}
-use Rattle.moment.proofs.Hours.{Indexed, indexed-start, indexed-end, indexed-new, indexed-old, lacks-inside}
-use Rattle.moment.proofs.Hours.{nearer}
-use Rattle.moment.proofs.Index.of_log.Statement.{statement}
-use Rattle.moment.proofs.Index.of_log.Tie as tie
+use Rattle.moment_fix.specs.Fix.{hourOf}
+use Rattle.hours.proofs.ByHour.{lacks-inside}
+use Rattle.moment.proofs.Hours.{Indexed, indexed-start, indexed-end, indexed-new, indexed-old, nearer}
+use Rattle.moment.proofs.index_of.Statement.{statement}
+use Rattle.moment.proofs.index_of.Tie as tie
 
 abbrev Inv-loop : tie.InvT-loop
 Inv-loop log index₀ place₀ index place = Indexed log place index
@@ -40,8 +40,8 @@ old c =
     indexed-old (read .before .before .loop .inv) (read .before .loop-test .taken) (read .read-at .ensures)
     (hour (c .before .before)) (sym (c .before .lacks .ensures) ∙ c .if1 .left)
 
-pub of-log-spec : {M : Type 1} → statement M
-of-log-spec =
+pub index-of-spec : {M : Type 1} → statement M
+index-of-spec =
     tie.close
     (tie.spec
     Inv-loop

@@ -1,9 +1,9 @@
 use Rattle.text.specs.Prelude.{ℕ, _≡_, _=?_}
 use Rattle.text.proofs.Prelude.{needs, refl, sym, yes=, no=, holds, fails}
 use lib.Dec.{eqb}
-use Rattle.moment.specs.Moment.{sameTime}
-use Rattle.moment.proofs.same_time.Statement.{statement}
-use Rattle.moment.proofs.same_time.Tie as tie
+use Rattle.moment_fix.specs.Fix.{sameTime}
+use Rattle.moment_fix.proofs.same_time.Statement.{statement}
+use Rattle.moment_fix.proofs.same_time.Tie as tie
 
 -- the code's last test
 last : (a b : ℕ) → (a =? b) ≡ eqb a b

@@ -1,7 +1,7 @@
 use Rattle.text.proofs.Prelude.{needs}
-use Rattle.moment.specs.Moment.{momentNumber}
-use Rattle.moment.proofs.Moment.number.Statement.{statement}
-use Rattle.moment.proofs.Moment.number.Tie as tie
+use Rattle.moment_fix.specs.Fix.{momentNumber}
+use Rattle.moment_fix.proofs.Moment.number.Statement.{statement}
+use Rattle.moment_fix.proofs.Moment.number.Tie as tie
 
 pub number-spec : {M : Type 1} → statement M
 unfolding momentNumber

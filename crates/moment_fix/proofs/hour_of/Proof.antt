@@ -1,7 +1,7 @@
 use Rattle.text.proofs.Prelude.{needs}
-use Rattle.moment.specs.Moment.{hourOf}
-use Rattle.moment.proofs.hour_of.Statement.{statement}
-use Rattle.moment.proofs.hour_of.Tie as tie
+use Rattle.moment_fix.specs.Fix.{hourOf}
+use Rattle.moment_fix.proofs.hour_of.Statement.{statement}
+use Rattle.moment_fix.proofs.hour_of.Tie as tie
 
 pub hour-of-spec : {M : Type 1} → statement M
 unfolding hourOf

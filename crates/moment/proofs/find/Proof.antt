@@ -1,7 +1,7 @@
 use Rattle.text.proofs.Prelude.{needs, ap, _∙_}
 use Rattle.moment.specs.Moment.{byIndex}
-use Rattle.moment.proofs.Index.find.Statement.{statement}
-use Rattle.moment.proofs.Index.find.Tie as tie
+use Rattle.moment.proofs.find.Statement.{statement}
+use Rattle.moment.proofs.find.Tie as tie
 
 pub find-spec : {M : Type 1} → statement M
 find-spec =

@@ -1,7 +1,7 @@
 use Rattle.text.proofs.Prelude.{needs, sym, ap, _∙_, yes≤, no≤, holds, fails}
-use Rattle.moment.specs.Moment.{isNowhere, lacks}
-use Rattle.moment.proofs.Index.lacks.Statement.{statement}
-use Rattle.moment.proofs.Index.lacks.Tie as tie
+use Rattle.hours.specs.Hours.{isNowhere, lacks}
+use Rattle.hours.proofs.Index.lacks.Statement.{statement}
+use Rattle.hours.proofs.Index.lacks.Tie as tie
 
 free : tie.Need-returns
 unfolding lacks isNowhere
