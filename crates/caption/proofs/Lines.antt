@@ -1,7 +1,10 @@
 -- The n-th line of a text, by what the cut at a place tells of the lines that are left.
-use Rattle.text.specs.Prelude.{ℕ, zero, suc, _+_, _-_, _≤_, _<_, _≡_, List, _∷_, length, drop}
-use Rattle.text.proofs.Prelude.{arith, refl, sym, ap, _∙_, length-drop, length-take, drop-of-length-le, length-take-le}
-use Rattle.text.proofs.Prelude.{pass, yes≤}
+use Rattle.text.specs.Prelude.{ℕ, zero, suc, _+_, _-_, _≤_, _<_, _≡_, List, _∷_, length, drop, guard, _≤?_}
+use native.Mathlib.Omega.{arith}
+use mathlib.Core.Path.{refl, sym, ap, _∙_}
+use lib.ListN.{length-drop, length-take, drop-of-length-le}
+use lib.Seq.{length-take-le}
+use borrow.Author.Tests.{le-leb}
 use Rattle.part.specs.Part.{findPart, shown}
 use Rattle.part.specs.declared.Part.{Part}
 use Rattle.log.specs.Line.{textLength, lineText}
@@ -50,5 +53,5 @@ module _ {s : List ℕ} {p : ℕ} {c : Cut} (a : Ahead s p c) (h : p < length s)
 -- ---- a part inside a text is shown as it is
 
 pub inside-shown : (p : Part) (s : List ℕ) → p .start + p .len ≤ length s → shown (findPart p s) ≡ p
-unfolding shown findPart
-inside-shown p s h = ap shown (sym (pass _ (yes≤ h) refl))
+unfolding shown findPart guard _≤?_
+inside-shown p s h = rw (le-leb _ _ h)

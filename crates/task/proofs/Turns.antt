@@ -1,6 +1,8 @@
 -- What the line that is seen at a place tells of the first declaration, and of the points that are left.
 use Rattle.text.specs.Prelude.{ℕ, zero, suc, _-_, _≤_, _<_, _≡_, true, false, List, [], _∷_, length, drop, ℤ}
-use Rattle.text.proofs.Prelude.{arith, refl, drop-of-length-le}
+use native.Mathlib.Omega.{arith}
+use mathlib.Core.Path.{refl}
+use lib.ListN.{drop-of-length-le}
 use mathlib.Core.Logic.{inl, inr}
 use denote.Enum.Declared.{tagOf}
 use types.Run.{OneOf}

@@ -1,6 +1,6 @@
 -- The lines of a log from a place on: the one that is seen there, and those from the next place on.
 use Rattle.text.specs.Prelude.{ℕ, _+_, _<_, _≡_, List, [], _∷_, map, length, drop}
-use Rattle.text.proofs.Prelude.{refl, ap, _∙_}
+use mathlib.Core.Path.{refl, ap, _∙_}
 use Rattle.part.specs.Part.{partBytes}
 use Rattle.records.specs.Record.{readLine, readingRes}
 use Rattle.records.specs.declared.Reading.{Reading}

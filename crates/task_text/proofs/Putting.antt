@@ -1,6 +1,9 @@
 -- The loop that writes points: what was written, and what is left to write from here, make up the whole.
 use Rattle.text.specs.Prelude.{ℕ, zero, suc, _+_, _-_, _≤_, _<_, _≡_, List, [], _∷_, _++_, length, drop, largest}
-use Rattle.text.proofs.Prelude.{arith, refl, sym, ap, _∙_, append-nil, append-assoc, drop-of-length-le}
+use native.Mathlib.Omega.{arith}
+use mathlib.Core.Path.{refl, sym, ap, _∙_}
+use mathlib.Core.List.{append-nil, append-assoc}
+use lib.ListN.{drop-of-length-le}
 use mathlib.Core.Logic.{inl, inr}
 use denote.Enum.Declared.{tagOf}
 use types.Run.{OneOf}

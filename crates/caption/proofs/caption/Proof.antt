@@ -1,4 +1,4 @@
-use Rattle.text.proofs.Prelude.{needs}
+use borrow.Author.Needs.{needs}
 use Rattle.caption.proofs.Lines.{inside-shown}
 use Rattle.caption.proofs.Names.{named, labelled}
 use Rattle.caption.proofs.caption.Statement.{statement}

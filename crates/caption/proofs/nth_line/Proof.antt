@@ -1,5 +1,7 @@
 use Rattle.text.specs.Prelude.{_-_, _<_, _≡_, length, drop}
-use Rattle.text.proofs.Prelude.{needs, arith, refl, sym, _∙_}
+use borrow.Author.Needs.{needs}
+use native.Mathlib.Omega.{arith}
+use mathlib.Core.Path.{refl, sym, _∙_}
 use Rattle.log.specs.Log.{chunks}
 use Rattle.caption.specs.Caption.{nowhere, nth}
 use Rattle.caption.proofs.Lines.{nth-past, nth-here, nth-next, here-inside}

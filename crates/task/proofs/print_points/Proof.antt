@@ -1,5 +1,7 @@
-use Rattle.text.specs.Prelude.{_≡_, drop, now}
-use Rattle.text.proofs.Prelude.{needs, refl, first, second, so-true, so-false}
+use Rattle.text.specs.Prelude.{_≡_, drop, now, pick}
+use borrow.Author.Needs.{needs}
+use mathlib.Core.Path.{sym, _∙_}
+use borrow.Author.Tests.{not-true, not-false}
 use Rattle.task_line.specs.Lines.{taskLines}
 use Rattle.task.specs.Sheet.{sheet, refused, sheetFrom}
 use Rattle.task_text.specs.Points.{pointsText}
@@ -12,16 +14,16 @@ interrupted : (c : tie.Then1) →
     let args = c .before .before .before .before .before .args in
     refused TaskRefusal.Interrupted
     ≡ sheetFrom (now (args .labels)) (args .points) (taskLines (drop (args .from) (now (args .log))))
-unfolding sheetFrom
-interrupted c = second _ (so-false (c .before .are-points .ensures) (c .if1 .taken)) refl
+unfolding sheetFrom pick
+interrupted c = rw (sym (c .before .are-points .ensures) ∙ not-true _ (c .if1 .taken))
 
 points : (c : tie.Else1) →
     let args = c .before .before .before .before .before .args in
     let lines = taskLines (drop (args .from) (now (args .log))) in
     sheet (pointsText (now (args .labels)) 1 (args .points) lines)
     ≡ sheetFrom (now (args .labels)) (args .points) lines
-unfolding sheetFrom
-points c = first _ (so-true (c .before .are-points .ensures) (c .if1 .left)) refl
+unfolding sheetFrom pick
+points c = rw (sym (c .before .are-points .ensures) ∙ not-false _ (c .if1 .left))
 
 full : tie.Need-returns-2
 full c =

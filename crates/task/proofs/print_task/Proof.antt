@@ -1,5 +1,6 @@
 use Rattle.text.specs.Prelude.{_≡_, now}
-use Rattle.text.proofs.Prelude.{needs, ap, sym, _∙_, came}
+use borrow.Author.Needs.{needs}
+use mathlib.Core.Path.{ap, sym, _∙_}
 use mir.Syntax.{w8}
 use mir.Val.{SFits}
 use mir.Facts.{toZ-ofZ}
@@ -13,7 +14,7 @@ undeclared : tie.Need-returns
 unfolding sheetOf sheetAfter
 undeclared c =
     let found = c .before .before in
-    none _ (ap (sheetAfter _) (came (declaredIn _) (c .enum-told .given .1) (found .find-declaration .ensures)))
+    none _ (ap (sheetAfter _) (sym (ap (declaredIn _) (c .enum-told .given .1)) ∙ found .find-declaration .ensures))
 
 -- the size is that of the count which was found
 size-is : (c : tie.After-size-of) → c .size-of .result ≡ sizeOf (c .before .before .count .given .0 .0)
@@ -28,7 +29,7 @@ unfolding sheetOf
 below c =
     let size = c .before .before in
     let at = size .before .before in
-    let found = came (declaredIn _) (at .count .given .1) (at .before .before .find-declaration .ensures) in
+    let found = sym (ap (declaredIn _) (at .count .given .1)) ∙ at .before .before .find-declaration .ensures in
     negative _ _ _ (sym (c .enum-told2 .given .1) ∙ size-is size) ∙ ap (sheetAfter _) found
 
 points : tie.Need-returns-3
@@ -38,7 +39,7 @@ points c =
     let points = put .before .before .before in
     let size = points .before .before in
     let at = size .before .before in
-    let found = came (declaredIn _) (at .count .given .1) (at .before .before .find-declaration .ensures) in
+    let found = sym (ap (declaredIn _) (at .count .given .1)) ∙ at .before .before .find-declaration .ensures in
     rw (asked _ _ _ (sym (points .points .given .1) ∙ size-is size), ap (sheetAfter _) found)
     at (put .print-points .ensures)
 

@@ -1,4 +1,4 @@
-use Rattle.text.proofs.Prelude.{needs}
+use borrow.Author.Needs.{needs}
 use Rattle.task_line.specs.Lines.{answerKind}
 use Rattle.task_line.proofs.kind_of.Statement.{statement}
 use Rattle.task_line.proofs.kind_of.Tie as tie

@@ -1,4 +1,5 @@
-use Rattle.text.proofs.Prelude.{needs, ap}
+use borrow.Author.Needs.{needs}
+use mathlib.Core.Path.{ap}
 use Rattle.task_line.specs.Lines.{recordKind}
 use Rattle.task_line.specs.declared.Kind.{Kind}
 use Rattle.task_line.proofs.kind_of_record.Statement.{statement}

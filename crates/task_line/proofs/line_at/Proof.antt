@@ -1,4 +1,4 @@
-use Rattle.text.proofs.Prelude.{needs}
+use borrow.Author.Needs.{needs}
 use Rattle.task_line.proofs.Seeing.{sees}
 use Rattle.task_line.proofs.line_at.Statement.{statement}
 use Rattle.task_line.proofs.line_at.Tie as tie

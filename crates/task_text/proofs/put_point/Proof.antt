@@ -1,4 +1,5 @@
-use Rattle.text.proofs.Prelude.{needs, arith}
+use borrow.Author.Needs.{needs}
+use native.Mathlib.Omega.{arith}
 use Rattle.put.proofs.Writing.{then, wrote-nothing}
 use Rattle.caption.specs.Caption.{captionText}
 use Rattle.task_line.specs.Lines.{lineOf}

@@ -1,5 +1,6 @@
 use Rattle.text.specs.Prelude.{_-_}
-use Rattle.text.proofs.Prelude.{needs, arith}
+use borrow.Author.Needs.{needs}
+use native.Mathlib.Omega.{arith}
 use Rattle.put.proofs.Writing.{wrote-length}
 use Rattle.task_text.proofs.Putting.{all-texts, no-text, Putting, at-start, next-put, all-put}
 use Rattle.task_text.proofs.put_points.Statement.{statement}

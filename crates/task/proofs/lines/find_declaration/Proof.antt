@@ -1,5 +1,7 @@
 use Rattle.text.specs.Prelude.{_-_, _≡_, length, drop}
-use Rattle.text.proofs.Prelude.{needs, arith, refl, _∙_}
+use borrow.Author.Needs.{needs}
+use native.Mathlib.Omega.{arith}
+use mathlib.Core.Path.{refl, _∙_}
 use mir.Syntax.{w8}
 use mir.Val.{SFits}
 use mir.Facts.{toZ-ofZ}

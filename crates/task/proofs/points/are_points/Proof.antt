@@ -1,5 +1,7 @@
 use Rattle.text.specs.Prelude.{_≡_, drop}
-use Rattle.text.proofs.Prelude.{needs, arith, refl, _∙_}
+use borrow.Author.Needs.{needs}
+use native.Mathlib.Omega.{arith}
+use mathlib.Core.Path.{refl, _∙_}
 use Rattle.task_line.specs.Lines.{taskLines}
 use Rattle.task.specs.Sheet.{arePoints}
 use Rattle.task.proofs.Turns.{all-points, too-few, no-point, a-point}

@@ -1,6 +1,7 @@
 -- A count is negsuc k below 0 and pos n else.
 use Rattle.text.specs.Prelude.{suc, _+_, _<_, _≡_, true, false, ℤ, pos, negsuc}
-use Rattle.text.proofs.Prelude.{arith, refl, subst}
+use native.Mathlib.Omega.{arith}
+use mathlib.Core.Path.{refl, subst}
 use lib.IntN.{natAbs}
 use lib.Signed.{ltZ, nonNeg}
 use lib.Dec.{T}
