@@ -30,10 +30,6 @@ cut-text s p h =
     let a = ahead s p refl in
     rw (sym (nth-here a h), sym (ap (λ q. bytesOf q s) (inside-shown _ s (here-inside a h))), a .first h) (a .text h)
 
-text-step : (n : ℕ) (t : List ℕ) (ts : List (List ℕ)) → nthText (suc (suc n)) (t ∷ ts) ≡ nthText (suc n) ts
-unfolding nthText
-text-step n t ts = refl
-
 -- past the end there is neither a line nor a text
 past-text : (s : List ℕ) (n p : ℕ) → length s ≤ p →
     bytesOf (nth p n (chunks (drop p s))) s ≡ nthText n (map lineText (chunks (drop p s)))
