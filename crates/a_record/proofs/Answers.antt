@@ -2,9 +2,9 @@
 use Rattle.text.specs.Prelude.{◌≡◌}
 use Rattle.text.proofs.Prelude.{refl}
 use Rattle.text.proofs.Answers.{made}
-use Rattle.a_record.specs.ARecord.{aRes}
+use Rattle.a_record.specs.ARecord.{a_res}
 use Rattle.a_record.specs.declared.ARead.{ARead}
 
-pub a-undone : (r : ARead) → made ARead.Ok ARead.Refused (aRes r) ≡ r
-a-undone (ARead.Ok v) = refl
-a-undone (ARead.Refused n) = refl
+pub a_undone : (r : ARead) → made ARead.Ok ARead.Refused (a_res r) ≡ r
+a_undone (ARead.Ok v) = refl
+a_undone (ARead.Refused n) = refl

@@ -1,10 +1,10 @@
 // A lines, as src/records/a_record.rs has them.
 ghost use Rattle.std.specs.Prelude.{◌≡◌, ◌+◌, ◌≤◌, length};
-ghost use Rattle.part.specs.Part.{findPart, findMaybe, shown, Shows};
+ghost use Rattle.part.specs.Part.{find_part, find_maybe, shown, Shows};
 ghost use Rattle.put.specs.Put.{Wrote};
 ghost use Rattle.print.specs.Print.{Prints};
 ghost use Rattle.manufacturer.specs.Maker.{triple_of};
-ghost use Rattle.a_record.specs.ARecord.{aNew, aOf, longForm, readTriple, read_a, tripleText, aPiece, aText, aRes};
+ghost use Rattle.a_record.specs.ARecord.{a_new, a_of, long_form, read_triple, read_a, triple_text, a_piece, a_text, a_res};
 
 use field::{Mnemonic, all_digits, is_ascii};
 use manufacturer::{Manufacturer, MaybeTriple};
@@ -13,14 +13,14 @@ use print::printed::Printed;
 use put::{put_byte, put_maybe, put_part};
 use text::refusal::Refusal;
 
-#[derive(Drop)]
+#[derive(Clone, Copy)]
 pub struct ARecord {
     pub unique_id: Part,
     pub id_extension: MaybePart,
     pub manufacturer: Manufacturer,
 }
 
-#[derive(Drop)]
+#[derive(Clone, Copy)]
 pub enum ARead {
     Ok(ARecord),
     Refused(Refusal),
@@ -28,7 +28,7 @@ pub enum ARead {
 
 // At least 9 bytes, and columns 4-9 are digits.
 fn is_long(line: &[u8]) -> bool
-    ensures { result ≡ longForm line.now }
+    ensures { result ≡ long_form line.now }
 {
     if line.len() < 9 {
         return false;
@@ -37,7 +37,7 @@ fn is_long(line: &[u8]) -> bool
 }
 
 fn put_triple(buf: &mut [u8], at: usize, m: Manufacturer) -> usize
-    ensures { Wrote buf.old at (tripleText (triple_of m)) buf.new result }
+    ensures { Wrote buf.old at (triple_text (triple_of m)) buf.new result }
 {
     match m.to_triple_char() {
         MaybeTriple::Triple(triple) => triple.put(buf, at),
@@ -48,7 +48,7 @@ fn put_triple(buf: &mut [u8], at: usize, m: Manufacturer) -> usize
 impl ARecord {
     // A record of its three parts.
     pub fn new(manufacturer: Manufacturer, id: Part, extension: MaybePart) -> ARecord
-        ensures { result ≡ aNew manufacturer id extension }
+        ensures { result ≡ a_new manufacturer id extension }
     {
         ARecord {
             unique_id: id,
@@ -60,7 +60,7 @@ impl ARecord {
     // A maker, an id of `len` bytes from `start` on, and what stands behind it.
     fn with_id(line: &[u8], manufacturer: Manufacturer, start: usize, len: usize) -> ARecord
         requires { start + len ≤ 9 }
-        ensures { result ≡ aOf line.now manufacturer start len }
+        ensures { result ≡ a_of line.now manufacturer start len }
     {
         let end = start + len;
         ARecord::new(
@@ -73,7 +73,7 @@ impl ARecord {
     // The two forms with a triple.
     fn parse_triple(line: &[u8]) -> ARead
         requires { 7 ≤ length line.now }
-        ensures { aRes result ≡ readTriple line.now }
+        ensures { a_res result ≡ read_triple line.now }
     {
         let maker = Manufacturer::parse_triple_char(Mnemonic(line[1], line[2], line[3]));
         if is_long(line) {
@@ -90,7 +90,7 @@ impl ARecord {
 
     // Reads an A line, by the letter form where columns 2-7 are digits, and else by a triple.
     pub fn parse(line: &[u8]) -> ARead
-        ensures { aRes result ≡ read_a line.now }
+        ensures { a_res result ≡ read_a line.now }
     {
         if line.len() < 7 {
             return ARead::Refused(Refusal::Syntax);
@@ -111,7 +111,7 @@ impl ARecord {
 
     // The id and the rest, each as a part of the caller's own line.
     pub fn unique_id(self, line: &[u8]) -> &[u8]
-        ensures { Shows line.entry (shown (findPart self.unique_id line.now)) result }
+        ensures { Shows line.entry (shown (find_part self.unique_id line.now)) result }
     {
         let id = self.unique_id;
         id.view(line)
@@ -119,7 +119,7 @@ impl ARecord {
 
     // What stands behind the id, as a part of the caller's own line.
     pub fn id_extension(self, line: &[u8]) -> &[u8]
-        ensures { Shows line.entry (shown (findMaybe self.id_extension line.now)) result }
+        ensures { Shows line.entry (shown (find_maybe self.id_extension line.now)) result }
     {
         let rest = self.id_extension;
         rest.view(line)
@@ -128,7 +128,7 @@ impl ARecord {
     // The text as a piece of a larger one, from a place on: bytes that are too short cut it, and what lies outside the
     // line is left out. `print` is the printer.
     pub fn put_piece(self, buf: &mut [u8], at: usize, line: &[u8]) -> usize
-        ensures { Wrote buf.old at (aPiece self line.now) buf.new result }
+        ensures { Wrote buf.old at (a_piece self line.now) buf.new result }
     {
         let maker = self.manufacturer;
         let id = self.unique_id;
@@ -141,7 +141,7 @@ impl ARecord {
 
     // Prints the record beside its line.
     pub fn print(self, line: &[u8], buf: &mut [u8]) -> Printed
-        ensures { Prints (aText self line.now) buf.old buf.new result }
+        ensures { Prints (a_text self line.now) buf.old buf.new result }
     {
         let id = self.unique_id;
         let rest = self.id_extension;

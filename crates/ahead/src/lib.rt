@@ -3,7 +3,7 @@
 ghost use Rattle.std.specs.Prelude.{◌≡◌};
 ghost use Rattle.ahead.specs.Ahead.{Ahead};
 
-use log::{Cut, cut_at};
+use igc_log::{Cut, cut_at};
 
 // The line that begins at a place, cut; past the text's end it is empty.
 pub fn cut_ahead(text: &[u8], at: usize) -> Cut

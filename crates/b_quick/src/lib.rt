@@ -2,10 +2,10 @@
 // Where this way says no, nothing is said, and `BRecord::parse` decides.
 ghost use Rattle.std.specs.Prelude.{◌≡◌, true, ◌≤◌, length};
 ghost use Rattle.text.specs.Res.{pick};
-ghost use Rattle.text.specs.Number.{allDigits, valueFrom};
-ghost use Rattle.field.specs.Field.{isAscii};
-ghost use Rattle.b_record.specs.BRecord.{readFix};
-ghost use Rattle.b_quick.specs.Quick.{plainDigits, fixRead, quickOf};
+ghost use Rattle.text.specs.Number.{all_digits_of, value_from};
+ghost use Rattle.field.specs.Field.{is_ascii_of};
+ghost use Rattle.b_record.specs.BRecord.{read_fix};
+ghost use Rattle.b_quick.specs.Quick.{plain_digits, fix_read, quick_of};
 ghost use Rattle.b_quick.specs.declared.Quick.TheVariants.{No};
 
 use b_record::{BRecord, FixValid, GpsAlt, PressureAlt, ValidRead};
@@ -15,7 +15,7 @@ use part::Part;
 use position::RawPosition;
 use time::{Time, TimeRead};
 
-#[derive(Drop)]
+#[derive(Clone, Copy)]
 pub enum Quick {
     Fix(BRecord),
     No,
@@ -25,7 +25,7 @@ pub enum Quick {
 // block.
 fn plain(line: &[u8]) -> bool
     requires { 35 ≤ length line.now }
-    ensures { result ≡ plainDigits line.now }
+    ensures { result ≡ plain_digits line.now }
 {
     if !all_digits(&line[1..9]) {
         return false;
@@ -44,8 +44,8 @@ fn plain(line: &[u8]) -> bool
 
 // The value of digits.
 fn value(digits: &[u8]) -> u32
-    requires { (allDigits digits.now ≡ true) × (length digits.now ≤ 5) }
-    ensures { result ≡ valueFrom 0 digits.now }
+    requires { (all_digits_of digits.now ≡ true) × (length digits.now ≤ 5) }
+    ensures { result ≡ value_from 0 digits.now }
 {
     let mut v: u32 = 0;
     let mut i = 0;
@@ -58,8 +58,8 @@ fn value(digits: &[u8]) -> u32
 
 // What `quick_fix` says of a line that is long enough and ASCII.
 fn plain_fix(line: &[u8]) -> Quick
-    requires { (35 ≤ length line.now) × (isAscii line.now ≡ true) }
-    ensures { result ≡ pick (plainDigits line.now) (fixRead (readFix line.now)) No }
+    requires { (35 ≤ length line.now) × (is_ascii_of line.now ≡ true) }
+    ensures { result ≡ pick (plain_digits line.now) (fix_read (read_fix line.now)) No }
 {
     if !plain(line) {
         return Quick::No;
@@ -116,7 +116,7 @@ fn plain_fix(line: &[u8]) -> Quick
 // A fix of plain digits, read without a test at each byte; No where that way says nothing, and `BRecord::parse`
 // decides.
 pub fn quick_fix(line: &[u8]) -> Quick
-    ensures { result ≡ quickOf line.now }
+    ensures { result ≡ quick_of line.now }
 {
     if line.len() < BRecord::BASE_LENGTH {
         return Quick::No;

@@ -1,11 +1,11 @@
 // B lines, as src/records/b_record.rs has them.
 ghost use Rattle.std.specs.Prelude.{◌≡◌, ◌≤◌, length};
-ghost use Rattle.part.specs.Part.{findPart, partBytes, shown, Shows, foundRes};
-ghost use Rattle.extension.specs.Value.{findValue};
+ghost use Rattle.part.specs.Part.{find_part, part_bytes, shown, Shows, found_res};
+ghost use Rattle.extension.specs.Value.{find_value};
 ghost use Rattle.put.specs.Put.{Wrote};
 ghost use Rattle.print.specs.Print.{Prints};
-ghost use Rattle.b_record.specs.BRecord.{pressureText, gpsText, validLetter, valid_of, readHeights, readB};
-ghost use Rattle.b_record.specs.BRecord.{tailText, bPiece, bText, bBook, validRes, heightsRes, bRes};
+ghost use Rattle.b_record.specs.BRecord.{pressure_text, gps_text, valid_letter, valid_of, read_heights_of, read_b};
+ghost use Rattle.b_record.specs.BRecord.{tail_text, b_piece, b_text, b_book, valid_res, heights_res, b_res};
 
 use extension::Extension;
 use field::is_ascii;
@@ -18,21 +18,21 @@ use text::number::{I16Read, read_i16};
 use text::refusal::Refusal;
 use time::{Time, TimeRead};
 
-#[derive(Drop)]
+#[derive(Clone, Copy)]
 pub enum FixValid {
     Valid,
     NavWarning,
 }
 
 // A height on the pressure datum. No place that wants a GPS height takes it.
-#[derive(Drop)]
+#[derive(Clone, Copy)]
 pub struct PressureAlt(pub i16);
 
 // A height from GPS. No place that wants a pressure height takes it.
-#[derive(Drop)]
+#[derive(Clone, Copy)]
 pub struct GpsAlt(pub i16);
 
-#[derive(Drop)]
+#[derive(Clone, Copy)]
 pub struct BRecord {
     pub rest: Part,
     pub pos: RawPosition,
@@ -42,25 +42,25 @@ pub struct BRecord {
     pub fix_valid: FixValid,
 }
 
-#[derive(Drop)]
+#[derive(Clone, Copy)]
 struct Heights {
     pressure: PressureAlt,
     gps: GpsAlt,
 }
 
-#[derive(Drop)]
+#[derive(Clone, Copy)]
 pub enum ValidRead {
     Ok(FixValid),
     Refused(Refusal),
 }
 
-#[derive(Drop)]
+#[derive(Clone, Copy)]
 enum HeightsRead {
     Ok(Heights),
     Refused(Refusal),
 }
 
-#[derive(Drop)]
+#[derive(Clone, Copy)]
 pub enum BRead {
     Ok(BRecord),
     Refused(Refusal),
@@ -70,7 +70,7 @@ pub enum BRead {
 impl PressureAlt {
     // The one place where the number of a pressure height comes out.
     pub fn put(self, buf: &mut [u8], at: usize, width: usize) -> usize
-        ensures { Wrote buf.old at (pressureText width self) buf.new result }
+        ensures { Wrote buf.old at (pressure_text width self) buf.new result }
     {
         put_i16(buf, at, self.0, width)
     }
@@ -80,7 +80,7 @@ impl PressureAlt {
 impl GpsAlt {
     // The one place where the number of a GPS height comes out.
     pub fn put(self, buf: &mut [u8], at: usize, width: usize) -> usize
-        ensures { Wrote buf.old at (gpsText width self) buf.new result }
+        ensures { Wrote buf.old at (gps_text width self) buf.new result }
     {
         put_i16(buf, at, self.0, width)
     }
@@ -89,7 +89,7 @@ impl GpsAlt {
 impl FixValid {
     // A or V.
     pub fn letter(self) -> u8
-        ensures { result ≡ validLetter self }
+        ensures { result ≡ valid_letter self }
     {
         match self {
             FixValid::Valid => b'A',
@@ -99,7 +99,7 @@ impl FixValid {
 
     // A or V by its letter.
     pub fn from_letter(letter: u8) -> ValidRead
-        ensures { validRes result ≡ valid_of letter }
+        ensures { valid_res result ≡ valid_of letter }
     {
         match letter {
             b'A' => ValidRead::Ok(FixValid::Valid),
@@ -112,7 +112,7 @@ impl FixValid {
 // The two heights, each from its own columns and of its own type.
 fn read_heights(line: &[u8]) -> HeightsRead
     requires { 35 ≤ length line.now }
-    ensures { heightsRes result ≡ readHeights line.now }
+    ensures { heights_res result ≡ read_heights_of line.now }
 {
     let pressure = match read_i16(&line[25..30]) {
         I16Read::Ok(by_pressure) => by_pressure,
@@ -132,7 +132,7 @@ impl BRecord {
 
     // Reads a B line of at least 35 ASCII bytes.
     pub fn parse(line: &[u8]) -> BRead
-        ensures { bRes result ≡ readB line.now }
+        ensures { b_res result ≡ read_b line.now }
     {
         if line.len() < BRecord::BASE_LENGTH {
             return BRead::Refused(Refusal::Syntax);
@@ -171,7 +171,7 @@ impl BRecord {
 
     // The bytes after the fixed columns, as a part of the caller's own line.
     pub fn rest(self, line: &[u8]) -> &[u8]
-        ensures { Shows line.entry (shown (findPart self.rest line.now)) result }
+        ensures { Shows line.entry (shown (find_part self.rest line.now)) result }
     {
         let rest = self.rest;
         rest.view(line)
@@ -179,7 +179,7 @@ impl BRecord {
 
     // Where the value of an extension stands in the line.
     pub fn find_extension(self, extension: Extension, line: &[u8]) -> Found
-        ensures { foundRes result ≡ findValue 35 self.rest extension line.now }
+        ensures { found_res result ≡ find_value 35 self.rest extension line.now }
     {
         let rest = self.rest;
         extension.find(BRecord::BASE_LENGTH, rest, line)
@@ -187,7 +187,7 @@ impl BRecord {
 
     // The value itself, as a part of the caller's own line.
     pub fn get_extension(self, extension: Extension, line: &[u8]) -> &[u8]
-        ensures { Shows line.entry (shown (findValue 35 self.rest extension line.now)) result }
+        ensures { Shows line.entry (shown (find_value 35 self.rest extension line.now)) result }
     {
         let rest = self.rest;
         extension.get_extension(BRecord::BASE_LENGTH, rest, line)
@@ -195,7 +195,7 @@ impl BRecord {
 
     // Its time and its position are by the book.
     pub fn by_the_book(self) -> bool
-        ensures { result ≡ bBook self }
+        ensures { result ≡ b_book self }
     {
         let timestamp = self.timestamp;
         let pos = self.pos;
@@ -207,7 +207,7 @@ impl BRecord {
 
     // From the fix's letter on.
     fn put_tail(self, buf: &mut [u8], at: usize, line: &[u8]) -> usize
-        ensures { Wrote buf.old at (tailText self (partBytes self.rest line.now))
+        ensures { Wrote buf.old at (tail_text self (part_bytes self.rest line.now))
             buf.new result }
     {
         let fix_valid = self.fix_valid;
@@ -223,7 +223,7 @@ impl BRecord {
     // The text as a piece of a larger one, from a place on: bytes that are too short cut it, and what lies outside the
     // line is left out. `print` is the printer.
     pub fn put_piece(self, buf: &mut [u8], at: usize, line: &[u8]) -> usize
-        ensures { Wrote buf.old at (bPiece self line.now) buf.new result }
+        ensures { Wrote buf.old at (b_piece self line.now) buf.new result }
     {
         let timestamp = self.timestamp;
         let pos = self.pos;
@@ -235,7 +235,7 @@ impl BRecord {
 
     // Prints the record beside its line.
     pub fn print(self, line: &[u8], buf: &mut [u8]) -> Printed
-        ensures { Prints (bText self line.now) buf.old buf.new result }
+        ensures { Prints (b_text self line.now) buf.old buf.new result }
     {
         let rest = self.rest;
         match rest.find(line) {

@@ -6,21 +6,21 @@ use lib.Signed.{lt_z, non_neg}
 use Rattle.bench_loops.specs.Timed.{above}
 
 -- what the test says of it
-pub above-negative : (z : ℤ) → lt_z z (pos 0) ≡ true → above z ≡ 0
+pub above_negative : (z : ℤ) → lt_z z (pos 0) ≡ true → above z ≡ 0
 unfolding above
-above-negative (pos n) t = absurd (omega (arith, ltb-true n 0 t))
-above-negative (negsuc n) t = refl
+above_negative (pos n) t = absurd (omega (arith, ltb-true n 0 t))
+above_negative (negsuc n) t = refl
 
 pub at_least : {z : ℤ} → SFits w16 z → lt_z z (pos 0) ≡ false → T (non_neg z) × Fits w64 (nat_abs z) × (nat_abs z ≡ above z)
 unfolding above
 at_least {z = pos n} f t = (tt, record { fits = omega (arith, f.sfits) }, refl)
 at_least {z = negsuc n} f t = absurd (subst T t tt)
 
-above-small : {z : ℤ} → SFits w16 z → above z < 2 ^ 15
+above_small : {z : ℤ} → SFits w16 z → above z < 2 ^ 15
 unfolding above
-above-small {z = pos n} f = f.sfits
-above-small {z = negsuc n} f = omega arith
+above_small {z = pos n} f = f.sfits
+above_small {z = negsuc n} f = omega arith
 
 -- of one that comes back from a local; a sum of a few does not reach 64 bits
-pub above-is : {z : ℤ} {r : ℕ} → SFits w16 z → r ≡ above (to_z w16 (of_z w16 z)) → (r ≡ above z) × (r < 2 ^ 15)
-above-is f e = let i = rw (to_z-of_z f) at e in (i, omega (arith, i, above-small f))
+pub above_is : {z : ℤ} {r : ℕ} → SFits w16 z → r ≡ above (to_z w16 (of_z w16 z)) → (r ≡ above z) × (r < 2 ^ 15)
+above_is f e = let i = rw (to_z-of_z f) at e in (i, omega (arith, i, above_small f))

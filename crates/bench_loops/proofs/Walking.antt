@@ -3,60 +3,60 @@ use Rattle.text.specs.Prelude.{ℕ, ◌-◌, ◌<◌, ◌≡◌, List, length}
 use Rattle.text.proofs.Prelude.{arith, refl, sym, ◌∙◌}
 use Rattle.part.specs.Part.{bytes_of}
 use Rattle.part.specs.declared.Part.{Part}
-use Rattle.records.specs.Record.{readLine, readingRes}
+use Rattle.records.specs.Record.{read_line_of, reading_res}
 use Rattle.records.specs.declared.Reading.{Reading}
-use Rattle.log.specs.Line.{cut_at}
-use Rattle.log.specs.Fold.{Carried, fresh}
-use Rattle.log.proofs.Cuts.{cut-viewed}
-use Rattle.log.proofs.Reached.{Reached, line, less-left}
+use Rattle.igc_log.specs.Line.{cut_at}
+use Rattle.igc_log.specs.Fold.{Carried, fresh}
+use Rattle.igc_log.proofs.Cuts.{cut_viewed}
+use Rattle.igc_log.proofs.Reached.{Reached, line, less_left}
 use Rattle.held.specs.declared.tables.Tables.{Tables}
-use Rattle.report.specs.Report.{reportAfter}
+use Rattle.report.specs.Report.{report_after}
 use Rattle.cursor.specs.Cursor.{past}
 use Rattle.walk.specs.Walk.{reading_of, step_of}
 use Rattle.walk.specs.Readings.{Line-read, reader}
 use Rattle.walk.specs.declared.{Walk.Walk, Step.Step}
 use Rattle.walk.specs.declared.Taken.TheVariants.{Line, Done}
-use Rattle.walk.proofs.Laws.{viewed, step-on}
-use Rattle.walk.proofs.Steps.{Roomy, going, roomy-on, roomy-step}
+use Rattle.walk.proofs.Laws.{viewed, step_on}
+use Rattle.walk.proofs.Steps.{Roomy, going, roomy_on, roomy_step}
 
 -- what a walk carries, with a made so far
-abbrev pub carriedBy : {T : Type 0} → Walk → T → Carried Tables T
-carriedBy w a = record { number = w.at.number; place = w.at.place; held = w.held; made = a }
+abbrev pub carried_by : {T : Type 0} → Walk → T → Carried Tables T
+carried_by w a = record { number = w.at.number; place = w.at.place; held = w.held; made = a }
 
 module _ {T : Type 0} {step : T → Line-read → T} {a₀ a : T} {s : List ℕ} {w : Walk} {t : Step}
     (roomy : Roomy s w)
-    (i : w.at.place < length s) (r : Reached reader step (fresh reader a₀) s w.at.place (carriedBy w a))
+    (i : w.at.place < length s) (r : Reached reader step (fresh reader a₀) s w.at.place (carried_by w a))
     (e : t ≡ step_of s w) where
   abbrev here : List ℕ
   here = bytes_of (cut_at w.at.place s).line s
 
   -- no more lines than bytes were read, so no count stops the walk
-  step-here : t ≡ record {
+  step_here : t ≡ record {
     walk = record {
       at = past w.at (cut_at w.at.place s);
       held = reader.after w.at.place w.held here;
-      report = reportAfter w.report w.at.place (readLine here);
+      report = report_after w.report w.at.place (read_line_of here);
     };
-    taken = Line (cut_at w.at.place s).line (reading_of (readLine here));
+    taken = Line (cut_at w.at.place s).line (reading_of (read_line_of here));
   }
-  step-here = let on = going s w (roomy-on roomy i) in e ∙ step-on s w on.0 on.1 on.2
+  step_here = let on = going s w (roomy_on roomy i) in e ∙ step_on s w on.0 on.1 on.2
 
   pub not_done : t.taken ≡ Done → ⊥
-  not_done d = let n = step-here in let z : ◌≡◌ {A = ℕ} 0 1 = cc in omega arith
+  not_done d = let n = step_here in let z : ◌≡◌ {A = ℕ} 0 1 = cc in omega arith
 
-  pub step-read : {part : Part} {q : Reading} → t.taken ≡ Line part q → readingRes q ≡ readLine here
-  step-read {q} k = let n = step-here in let z : q ≡ reading_of (readLine here) = cc in rw z (viewed (readLine here))
+  pub step_read : {part : Part} {q : Reading} → t.taken ≡ Line part q → reading_res q ≡ read_line_of here
+  step_read {q} k = let n = step_here in let z : q ≡ reading_of (read_line_of here) = cc in rw z (viewed (read_line_of here))
 
   -- the line that was read, with a' made of it
-  pub step-turn : {a' : T} → ((n : ℕ) (h : Tables) →
-      a' ≡ step a (record { number = n; place = w.at.place; line = here; answer = readLine here; held = h })) →
-      Reached reader step (fresh reader a₀) s t.walk.at.place (carriedBy t.walk a')
+  pub step_turn : {a' : T} → ((n : ℕ) (h : Tables) →
+      a' ≡ step a (record { number = n; place = w.at.place; line = here; answer = read_line_of here; held = h })) →
+      Reached reader step (fresh reader a₀) s t.walk.at.place (carried_by t.walk a')
   unfolding past
-  step-turn m = rw step-here (line i r refl (sym (cut-viewed s _ r.inside)) (omega arith) refl (m _ _))
+  step_turn m = rw step_here (line i r refl (sym (cut_viewed s _ r.inside)) (omega arith) refl (m _ _))
 
-  pub step-roomy : Roomy s t.walk
-  step-roomy = rw e (roomy-step roomy i)
+  pub step_roomy : Roomy s t.walk
+  step_roomy = rw e (roomy_step roomy i)
 
-  pub step-less-left : length s - t.walk.at.place < length s - w.at.place
+  pub step_less_left : length s - t.walk.at.place < length s - w.at.place
   unfolding past
-  step-less-left = rw step-here (less-left r i refl)
+  step_less_left = rw step_here (less_left r i refl)

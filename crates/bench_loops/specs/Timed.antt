@@ -2,20 +2,20 @@
 use Rattle.text.specs.Prelude.{ℕ, ◌+◌, ◌%◌, ◌^◌, ◌≡◌, List, length, ℤ, pos, negsuc, Res, ok, no, byte}
 use Rattle.part.specs.Part.{bytes_of, shown}
 use Rattle.field.specs.declared.Mnemonic.{Mnemonic}
-use Rattle.print.specs.Print.{answerTo, leftBy}
-use Rattle.time.specs.Time.{secondsOf}
+use Rattle.print.specs.Print.{answer_to, left_by}
+use Rattle.time.specs.Time.{seconds_of_lem}
 use Rattle.b_record.specs.declared.BRecord.{BRecord}
-use Rattle.records.specs.Record.{recordFix, answerFix}
+use Rattle.records.specs.Record.{record_fix, answer_fix}
 use Rattle.records.specs.declared.{Record.Record, MaybeFix.MaybeFix}
 use Rattle.records.specs.declared.MaybeFix.TheVariants.{Missing, Fix}
-use Rattle.record_print.specs.Printed.{answerPrinted}
-use Rattle.held.specs.Held.{lookUp}
+use Rattle.record_print.specs.Printed.{answer_printed}
+use Rattle.held.specs.Held.{look_up}
 use Rattle.held.specs.declared.Held.{Held}
-use Rattle.log.specs.Log.{readings}
-use Rattle.log.specs.Fold.{over}
+use Rattle.igc_log.specs.Log.{readings}
+use Rattle.igc_log.specs.Fold.{over}
 use Rattle.report.specs.Range.{Range, none, between}
 use Rattle.report.specs.Figures.{Figures}
-use Rattle.report.specs.Report.{reportOf}
+use Rattle.report.specs.Report.{report_of}
 use Rattle.report.specs.declared.{pressure.PressurePeak.PressurePeak, gps.GpsPeak.GpsPeak}
 use Rattle.walk.specs.Readings.{Line-read, reader}
 
@@ -29,64 +29,64 @@ above (pos n) = n
 above (negsuc n) = 0
 
 -- Of a fix its time, its minutes and its heights.
-unfoldable pub ofFix : BRecord → ℕ
-ofFix b =
-    secondsOf b.timestamp
+unfoldable pub of_fix_of : BRecord → ℕ
+of_fix_of b =
+    seconds_of_lem b.timestamp
     + (b.pos.lat.0.minute_thousandths + b.pos.lon.0.minute_thousandths)
     + (above b.pressure_alt.0 + above b.gps_alt.0)
 
 -- Of an accepted record: of a fix these, of any other 1.
-unfoldable pub ofAccepted : MaybeFix → ℕ
-ofAccepted (Fix b) = ofFix b
-ofAccepted Missing = 1
+unfoldable pub of_accepted : MaybeFix → ℕ
+of_accepted (Fix b) = of_fix_of b
+of_accepted Missing = 1
 
 -- Of a refused line 0.
-unfoldable pub ofAnswer : Res Record → ℕ
-ofAnswer (ok r) = ofAccepted (recordFix r)
-ofAnswer (no n) = 0
+unfoldable pub of_answer : Res Record → ℕ
+of_answer (ok r) = of_accepted (record_fix r)
+of_answer (no n) = 0
 
 -- Of the highest and the lowest, by what f tells of each; where there is none 0.
-unfoldable pub ofRange : {P : Type 0} → (P → ℕ) → Range P → ℕ
-ofRange f none = 0
-ofRange f (between high low) = summed (f high) (f low)
+unfoldable pub of_range : {P : Type 0} → (P → ℕ) → Range P → ℕ
+of_range f none = 0
+of_range f (between high low) = summed (f high) (f low)
 
 -- Of a report its lines and fixes, its heights and its times.
-unfoldable pub ofFigures : Figures PressurePeak GpsPeak → ℕ
-ofFigures f =
+unfoldable pub of_figures : Figures PressurePeak GpsPeak → ℕ
+of_figures f =
     summed
     (summed (summed f.lines f.fixes)
-    (summed (ofRange (λ p. above p.height.0) f.pressure) (ofRange (λ p. above p.height.0) f.gps)))
-    (ofRange (λ t. t) f.times)
+    (summed (of_range (λ p. above p.height.0) f.pressure) (of_range (λ p. above p.height.0) f.gps)))
+    (of_range (λ t. t) f.times)
 
 -- Of a value: its length and its first byte.
-unfoldable pub ofValue : List ℕ → ℕ
-ofValue v = summed (length v) (byte 0 v)
+unfoldable pub of_value_of : List ℕ → ℕ
+of_value_of v = summed (length v) (byte 0 v)
 
 -- Of what a name finds on a fix; where there is none 0.
-unfoldable pub ofNamed : Mnemonic → Held → MaybeFix → List ℕ → ℕ
-ofNamed name h (Fix b) s = ofValue (bytes_of (shown (lookUp 35 b.rest h name s)) s)
-ofNamed name h Missing s = 0
+unfoldable pub of_named_of : Mnemonic → Held → MaybeFix → List ℕ → ℕ
+of_named_of name h (Fix b) s = of_value_of (bytes_of (shown (look_up 35 b.rest h name s)) s)
+of_named_of name h Missing s = 0
 
 -- The length that a printer wrote; 0 where it refused.
-unfoldable pub writtenLength : Res ℕ → ℕ
-writtenLength (ok n) = n
-writtenLength (no n) = 0
+unfoldable pub written_length : Res ℕ → ℕ
+written_length (ok n) = n
+written_length (no n) = 0
 
 -- The bytes b became b' where the text m was printed into them; r is the length written.
 pub record PrintedLine (m : Res (List ℕ)) (b b' : List ℕ) (r : ℕ) : Type 0 where
-  pub answer : r ≡ writtenLength (answerTo m b)
-  pub left : b' ≡ leftBy m b
+  pub answer : r ≡ written_length (answer_to m b)
+  pub left : b' ≡ left_by m b
 
 -- ---- a line
 
 -- One reading more in the sum of answers.
 unfoldable pub read_step : ℕ → Line-read → ℕ
-read_step n x = summed n (ofAnswer x.answer)
+read_step n x = summed n (of_answer x.answer)
 
 -- The same, with the value of a name on fixes.
-unfoldable pub lookUpStep : Mnemonic → ℕ → Line-read → ℕ
-lookUpStep name n x = summed (summed n (ofAnswer x.answer))
-    (ofNamed name x.held.i (answerFix x.answer) x.line)
+unfoldable pub look_up_step : Mnemonic → ℕ → Line-read → ℕ
+look_up_step name n x = summed (summed n (of_answer x.answer))
+    (of_named_of name x.held.i (answer_fix x.answer) x.line)
 
 -- The lengths of the texts printed, and the bytes in which each was printed in its turn.
 pub record Out : Type 0 where
@@ -94,26 +94,26 @@ pub record Out : Type 0 where
   pub bytes : List ℕ
 
 -- One reading more printed, and its length in the sum.
-unfoldable pub printStep : Out → Line-read → Out
-printStep o x = let text = answerPrinted x.answer x.line in record {
-  sum = summed o.sum (writtenLength (answerTo text o.bytes));
-  bytes = leftBy text o.bytes;
+unfoldable pub print_step : Out → Line-read → Out
+print_step o x = let text = answer_printed x.answer x.line in record {
+  sum = summed o.sum (written_length (answer_to text o.bytes));
+  bytes = left_by text o.bytes;
 }
 
 -- ---- a log
 
 -- The sum over a log's answers.
-unfoldable pub readSum : List ℕ → ℕ
-readSum log = over read_step 0 (readings reader log)
+unfoldable pub read_sum : List ℕ → ℕ
+read_sum log = over read_step 0 (readings reader log)
 
 -- The figures of a log's report.
-unfoldable pub reportSum : List ℕ → ℕ
-reportSum log = ofFigures (reportOf (readings reader log))
+unfoldable pub report_sum : List ℕ → ℕ
+report_sum log = of_figures (report_of (readings reader log))
 
 -- The sum over a log's answers and values.
-unfoldable pub lookUpSum : Mnemonic → List ℕ → ℕ
-lookUpSum name log = over (lookUpStep name) 0 (readings reader log)
+unfoldable pub look_up_sum : Mnemonic → List ℕ → ℕ
+look_up_sum name log = over (look_up_step name) 0 (readings reader log)
 
 -- What printing a log comes to.
-unfoldable pub printedOut : List ℕ → List ℕ → Out
-printedOut log b = over printStep (record { sum = 0; bytes = b }) (readings reader log)
+unfoldable pub printed_out : List ℕ → List ℕ → Out
+printed_out log b = over print_step (record { sum = 0; bytes = b }) (readings reader log)

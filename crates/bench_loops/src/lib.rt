@@ -3,11 +3,11 @@
 pub mod moments;
 
 ghost use Rattle.std.specs.Prelude.{◌≡◌};
-ghost use Rattle.records.specs.Record.{readingRes};
-ghost use Rattle.record_print.specs.Printed.{answerPrinted};
-ghost use Rattle.bench_loops.specs.Timed.{above as Timed·above, ofFix, ofAnswer, ofValue, ofNamed, PrintedLine};
-ghost use Rattle.report.specs.Report.{pressureIn, gpsIn, timesIn};
-ghost use Rattle.bench_loops.specs.Timed.{ofRange, readSum, reportSum, lookUpSum, printedOut};
+ghost use Rattle.records.specs.Record.{reading_res};
+ghost use Rattle.record_print.specs.Printed.{answer_printed};
+ghost use Rattle.bench_loops.specs.Timed.{above as Timed·above, of_fix_of, of_answer, of_value_of, of_named_of, PrintedLine};
+ghost use Rattle.report.specs.Report.{pressure_in, gps_in, times_in};
+ghost use Rattle.bench_loops.specs.Timed.{of_range, read_sum, report_sum, look_up_sum, printed_out};
 
 use b_record::BRecord;
 use field::Mnemonic;
@@ -31,7 +31,7 @@ fn above(height: i16) -> u64
 }
 
 fn of_fix(fix: BRecord) -> u64
-    ensures { result ≡ ofFix fix }
+    ensures { result ≡ of_fix_of fix }
 {
     let time = fix.timestamp;
     let pos = fix.pos;
@@ -41,7 +41,7 @@ fn of_fix(fix: BRecord) -> u64
 }
 
 fn of_reading(reading: Reading) -> u64
-    ensures { result ≡ ofAnswer (readingRes reading) }
+    ensures { result ≡ of_answer (reading_res reading) }
 {
     match reading {
         Reading::Refused(_) => 0,
@@ -55,7 +55,7 @@ fn of_reading(reading: Reading) -> u64
 // Lines cut and read, the table left alone.
 #[unsafe(no_mangle)]
 pub extern "C" fn timed_read(log: &[u8]) -> u64
-    ensures { result ≡ readSum log.now }
+    ensures { result ≡ read_sum log.now }
 {
     let mut sum: u64 = 0;
     let mut at = 0;
@@ -71,7 +71,7 @@ pub extern "C" fn timed_read(log: &[u8]) -> u64
 // The same by steps of a walk, which carries the table along.
 #[unsafe(no_mangle)]
 pub extern "C" fn timed_step(log: &[u8]) -> u64
-    ensures { result ≡ readSum log.now }
+    ensures { result ≡ read_sum log.now }
 {
     let mut walk = Walk::new();
     let mut sum: u64 = 0;
@@ -90,7 +90,7 @@ pub extern "C" fn timed_step(log: &[u8]) -> u64
 }
 
 fn of_pressure(range: PressureRange) -> u64
-    ensures { result ≡ ofRange (λ p. Timed·above p.height.0) (pressureIn range) }
+    ensures { result ≡ of_range (λ p. Timed·above p.height.0) (pressure_in range) }
 {
     match range {
         PressureRange::Missing => 0,
@@ -101,7 +101,7 @@ fn of_pressure(range: PressureRange) -> u64
 }
 
 fn of_gps(range: GpsRange) -> u64
-    ensures { result ≡ ofRange (λ p. Timed·above p.height.0) (gpsIn range) }
+    ensures { result ≡ of_range (λ p. Timed·above p.height.0) (gps_in range) }
 {
     match range {
         GpsRange::Missing => 0,
@@ -112,7 +112,7 @@ fn of_gps(range: GpsRange) -> u64
 }
 
 fn of_times(range: TimeRange) -> u64
-    ensures { result ≡ ofRange (λ t. t) (timesIn range) }
+    ensures { result ≡ of_range (λ t. t) (times_in range) }
 {
     match range {
         TimeRange::Missing => 0,
@@ -125,7 +125,7 @@ fn of_times(range: TimeRange) -> u64
 // A walk to its end, which keeps tables and report: the report's figures.
 #[unsafe(no_mangle)]
 pub extern "C" fn timed_walk(log: &[u8]) -> u64
-    ensures { result ≡ reportSum log.now }
+    ensures { result ≡ report_sum log.now }
 {
     let walk = walk_to_end(Walk::new(), log);
     let report = walk.report;
@@ -138,7 +138,7 @@ pub extern "C" fn timed_walk(log: &[u8]) -> u64
 }
 
 fn of_value(value: &[u8]) -> u64
-    ensures { result ≡ ofValue value.now }
+    ensures { result ≡ of_value_of value.now }
 {
     if value.len() == 0 {
         return 0;
@@ -147,7 +147,7 @@ fn of_value(value: &[u8]) -> u64
 }
 
 fn of_named(name: Mnemonic, held: Held, fix: MaybeFix, line: &[u8]) -> u64
-    ensures { result ≡ ofNamed name held fix line.now }
+    ensures { result ≡ of_named_of name held fix line.now }
 {
     match fix {
         MaybeFix::Fix(b) => of_value(held.get(BRecord::BASE_LENGTH, b.rest, name, line)),
@@ -158,7 +158,7 @@ fn of_named(name: Mnemonic, held: Held, fix: MaybeFix, line: &[u8]) -> u64
 // Lines cut and read, and on each fix the value of a name, by the table in force.
 #[unsafe(no_mangle)]
 pub extern "C" fn timed_lookup(log: &[u8], a: u8, b: u8, c: u8) -> u64
-    ensures { result ≡ lookUpSum (record { 0 = a; 1 = b; 2 = c }) log.now }
+    ensures { result ≡ look_up_sum (record { 0 = a; 1 = b; 2 = c }) log.now }
 {
     let name = Mnemonic(a, b, c);
     let mut held = Tables::new();
@@ -179,7 +179,7 @@ pub extern "C" fn timed_lookup(log: &[u8], a: u8, b: u8, c: u8) -> u64
 
 // What was read, printed again; the length of its text, and 0 where there is none.
 fn print_line(reading: Reading, line: &[u8], buf: &mut [u8]) -> u64
-    ensures { PrintedLine (answerPrinted (readingRes reading) line.now) buf.old
+    ensures { PrintedLine (answer_printed (reading_res reading) line.now) buf.old
         buf.new result }
 {
     match reading {
@@ -194,7 +194,7 @@ fn print_line(reading: Reading, line: &[u8], buf: &mut [u8]) -> u64
 // Every record printed again, each from the start of the lent bytes.
 #[unsafe(no_mangle)]
 pub extern "C" fn timed_print(log: &[u8], buf: &mut [u8]) -> u64
-    ensures { printedOut log.now buf.old ≡ record { sum = result; bytes = buf.new } }
+    ensures { printed_out log.now buf.old ≡ record { sum = result; bytes = buf.new } }
 {
     let mut sum: u64 = 0;
     let mut at = 0;

@@ -1,7 +1,7 @@
 // What bench/ times of moments: the index of a log, and a question for each minute of an hour, by the log's own index
 // and by a walk from its start. The two have one answer.
 ghost use Rattle.std.specs.Prelude.{◌≡◌};
-ghost use Rattle.bench_loops.specs.Moments.{ofFirst, ofMoment, indexPlace, momentSum};
+ghost use Rattle.bench_loops.specs.Moments.{of_first_of, of_moment_of, index_place, moment_sum};
 
 use hours::First;
 use moment::{find, find_by_walk, index_of};
@@ -9,7 +9,7 @@ use moment_fix::Moment;
 use std::num::wrapping_add_u64;
 
 fn of_first(first: First) -> u64
-    ensures { result ≡ ofFirst first }
+    ensures { result ≡ of_first_of first }
 {
     match first {
         First::Nowhere => 0,
@@ -18,7 +18,7 @@ fn of_first(first: First) -> u64
 }
 
 fn of_moment(answer: Moment) -> u64
-    ensures { result ≡ ofMoment answer }
+    ensures { result ≡ of_moment_of answer }
 {
     match answer {
         Moment::Found(place, _) => place as u64,
@@ -30,7 +30,7 @@ fn of_moment(answer: Moment) -> u64
 // The index of a log: what it holds for an hour.
 #[unsafe(no_mangle)]
 pub extern "C" fn timed_index(log: &[u8], hours: u8) -> u64
-    ensures { result ≡ indexPlace log.now hours }
+    ensures { result ≡ index_place log.now hours }
 {
     let index = index_of(log);
     let hour = hours as usize;
@@ -45,7 +45,7 @@ pub extern "C" fn timed_index(log: &[u8], hours: u8) -> u64
 // The same, and a question for each minute of the hour.
 #[unsafe(no_mangle)]
 pub extern "C" fn timed_moments(log: &[u8], hours: u8, seconds: u8) -> u64
-    ensures { result ≡ momentSum 60 log.now hours seconds }
+    ensures { result ≡ moment_sum 60 log.now hours seconds }
 {
     let index = index_of(log);
     let mut sum: u64 = 0;
@@ -61,7 +61,7 @@ pub extern "C" fn timed_moments(log: &[u8], hours: u8, seconds: u8) -> u64
 // The same questions with no index.
 #[unsafe(no_mangle)]
 pub extern "C" fn timed_walks(log: &[u8], hours: u8, seconds: u8) -> u64
-    ensures { result ≡ momentSum 60 log.now hours seconds }
+    ensures { result ≡ moment_sum 60 log.now hours seconds }
 {
     let mut sum: u64 = 0;
     let mut minutes: u8 = 0;

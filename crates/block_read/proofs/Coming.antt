@@ -1,6 +1,6 @@
 -- From place to place: where a reader comes to, one law for each way of putting readers in a row.
 use Rattle.text.specs.Prelude.{ℕ, ◌≤◌, ◌≡◌, Bool, true, false, List, length, drop, pick}
-use Rattle.text.proofs.Prelude.{arith, refl, sym, ap, ◌∙◌, by-test}
+use Rattle.text.proofs.Prelude.{arith, refl, sym, ap, ◌∙◌, by_test}
 use Rattle.block_read.specs.Read.{Read, got, wrong, next}
 use Rattle.block_read.specs.Held.{held_at, onward, Came}
 use Rattle.block_read.specs.declared.{number.Place.Place}
@@ -10,26 +10,26 @@ abbrev pub here : List ℕ → Place → List ℕ
 here text p = drop p.at text
 
 -- what was read is not wrong
-pub got-wrong : {A B : Type 0} {a : A} {s r : List ℕ} → got a s ≡ wrong r → B
-got-wrong h = let z : ◌≡◌ {A = ℕ} 0 1 = cc in absurd (omega arith)
+pub got_wrong : {A B : Type 0} {a : A} {s r : List ℕ} → got a s ≡ wrong r → B
+got_wrong h = let z : ◌≡◌ {A = ℕ} 0 1 = cc in absurd (omega arith)
 
 -- ---- one reader
 
 module _ {A : Type 0} {text : List ℕ} {from to : Place} {f : List ℕ → Read A} {a : A} where
   -- what a good place says of the reader that came there
-  pub from-good : Came text from f to a → to.good ≡ true → from.good ≡ true
+  pub from_good : Came text from f to a → to.good ≡ true → from.good ≡ true
   unfolding held_at onward pick
-  from-good c e = by-test from.good (λ g. g) (λ g. got-wrong (rw (e, g) at c.is))
+  from_good c e = by_test from.good (λ g. g) (λ g. got_wrong (rw (e, g) at c.is))
 
-  pub got-there : Came text from f to a → to.good ≡ true → f (here text from) ≡ got a (here text to)
+  pub got_there : Came text from f to a → to.good ≡ true → f (here text from) ≡ got a (here text to)
   unfolding held_at onward pick
-  got-there c e = sym (rw (e, from-good c e) at c.is)
+  got_there c e = sym (rw (e, from_good c e) at c.is)
 
   -- what one that is not good says, where all before the reader was good
-  pub wrong-there : Came text from f to a → from.good ≡ true → to.good ≡ false →
+  pub wrong_there : Came text from f to a → from.good ≡ true → to.good ≡ false →
       f (here text from) ≡ wrong (here text to)
   unfolding held_at onward pick
-  wrong-there c g e = sym (rw (e, g) at c.is)
+  wrong_there c g e = sym (rw (e, g) at c.is)
 
   -- the other way round
   pub comes : from.good ≡ true → to.good ≡ true → to.at ≤ length text → got a (here text to) ≡ f (here text from) →
@@ -40,13 +40,13 @@ module _ {A : Type 0} {text : List ℕ} {from to : Place} {f : List ℕ → Read
   pub stops : from.at ≤ length text → to ≡ record { at = from.at; good = false } →
       (from.good ≡ true → wrong (here text from) ≡ f (here text from)) → Came text from f to a
   unfolding held_at onward pick
-  stops l e h = rw e (record { is = by-test from.good (λ t. rw t (h t)) (λ t. rw t); inside = l })
+  stops l e h = rw e (record { is = by_test from.good (λ t. rw t (h t)) (λ t. rw t); inside = l })
 
   -- a reader that says the same of this text comes to the same place
   pub alike : {g : List ℕ → Read A} → Came text from f to a →
       (from.good ≡ true → f (here text from) ≡ g (here text from)) → Came text from g to a
   unfolding onward pick
-  alike c e = record { is = c.is ∙ by-test from.good (λ t. rw t (e t)) (λ t. rw t); inside = c.inside }
+  alike c e = record { is = c.is ∙ by_test from.good (λ t. rw t (e t)) (λ t. rw t); inside = c.inside }
 
 -- ---- readers in a row
 

@@ -2,11 +2,11 @@
 use Rattle.text.specs.Prelude.{ℕ, zero, suc, ◌+◌, ◌≤◌, Bool, true, false, List, length, drop, pick, ◌≤?◌, ◌=?◌, byte}
 use Rattle.text.proofs.Prelude.{arith, length-drop}
 use Rattle.text.specs.Spelt.{spelt}
-use Rattle.sheet_text.specs.Sheet.{noneLine}
-use Rattle.block_read.specs.Read.{Read, got, wrong, next, starts_with, frontFrom, readWords, readNumber, readMinus}
-use Rattle.block_read.specs.Read.{readHeight, readLine}
-use Rattle.block_read.specs.Block.{readCount, readAnswer, readAnswers, readSpot, readPressure, readGps, readRange}
-use Rattle.block_read.specs.Block.{readTime, readTimes, read_all}
+use Rattle.sheet_text.specs.Sheet.{none_line}
+use Rattle.block_read.specs.Read.{Read, got, wrong, next, starts_with, front_from, read_words_of, read_number_of, read_minus}
+use Rattle.block_read.specs.Read.{read_height_of, read_line_of}
+use Rattle.block_read.specs.Block.{read_count, read_answer_of, read_answers_of, read_spot_of, read_pressure, read_gps, read_range}
+use Rattle.block_read.specs.Block.{read_time_of, read_times_of, read_all}
 
 abbrev pub rest_of : {A : Type 0} → Read A → List ℕ
 rest_of (got a r) = r
@@ -15,121 +15,121 @@ rest_of (wrong r) = r
 pub record Leaves {A : Type 0} (n : ℕ) (x : Read A) : Type 0 where
   pub most : length (rest_of x) ≤ n
 
-pub leaves-next : {A B : Type 0} {n : ℕ} (x : Read A) (f : A → List ℕ → Read B) → Leaves n x →
+pub leaves_next : {A B : Type 0} {n : ℕ} (x : Read A) (f : A → List ℕ → Read B) → Leaves n x →
     ((a : A) (r : List ℕ) → length r ≤ n → Leaves n (f a r)) → Leaves n (next x f)
 unfolding next
-leaves-next (got a r) f h k = k a r h.most
-leaves-next (wrong r) f h k = record { most = h.most }
+leaves_next (got a r) f h k = k a r h.most
+leaves_next (wrong r) f h k = record { most = h.most }
 
-pub leaves-pick : {A : Type 0} {n : ℕ} (t : Bool) {x y : Read A} → Leaves n x → Leaves n y → Leaves n (pick t x y)
+pub leaves_pick : {A : Type 0} {n : ℕ} (t : Bool) {x y : Read A} → Leaves n x → Leaves n y → Leaves n (pick t x y)
 unfolding pick
-leaves-pick true h k = h
-leaves-pick false h k = k
+leaves_pick true h k = h
+leaves_pick false h k = k
 
-pub leaves-got : {A : Type 0} {n : ℕ} (a : A) (r : List ℕ) → length r ≤ n → Leaves n (got a r)
-leaves-got a r h = record { most = h }
+pub leaves_got : {A : Type 0} {n : ℕ} (a : A) (r : List ℕ) → length r ≤ n → Leaves n (got a r)
+leaves_got a r h = record { most = h }
 
-pub leaves-wrong : {A : Type 0} {n : ℕ} (r : List ℕ) → length r ≤ n → Leaves {A = A} n (wrong r)
-leaves-wrong r h = record { most = h }
+pub leaves_wrong : {A : Type 0} {n : ℕ} (r : List ℕ) → length r ≤ n → Leaves {A = A} n (wrong r)
+leaves_wrong r h = record { most = h }
 
 -- what is dropped does not count
 dropped : {n : ℕ} (k : ℕ) (s : List ℕ) → length s ≤ n → length (drop k s) ≤ n
 dropped k s h = omega (arith, length-drop k s, h)
 
 module _ {n : ℕ} where
-  leaves-words : (ws s : List ℕ) → length s ≤ n → Leaves n (readWords ws s)
-  unfolding readWords
-  leaves-words ws s h = leaves-pick (starts_with ws s) (leaves-got _ _ (dropped (length ws) s h)) (leaves-wrong s h)
+  leaves_words : (ws s : List ℕ) → length s ≤ n → Leaves n (read_words_of ws s)
+  unfolding read_words_of
+  leaves_words ws s h = leaves_pick (starts_with ws s) (leaves_got _ _ (dropped (length ws) s h)) (leaves_wrong s h)
 
-  leaves-number : (most c : ℕ) (s : List ℕ) → length s ≤ n → Leaves n (readNumber most c s)
-  unfolding readNumber
-  leaves-number most c s h =
-      leaves-pick (frontFrom 0 s ≤? most)
-      (leaves-next (readWords _ s) _ (leaves-words _ s h) (λ _ r. leaves-got _ r))
-      (leaves-wrong s h)
+  leaves_number : (most c : ℕ) (s : List ℕ) → length s ≤ n → Leaves n (read_number_of most c s)
+  unfolding read_number_of
+  leaves_number most c s h =
+      leaves_pick (front_from 0 s ≤? most)
+      (leaves_next (read_words_of _ s) _ (leaves_words _ s h) (λ _ r. leaves_got _ r))
+      (leaves_wrong s h)
 
-  leaves-minus : (s : List ℕ) → length s ≤ n → Leaves n (readMinus s)
-  unfolding readMinus
-  leaves-minus s h =
-      leaves-next (readNumber 32768 32 (drop 1 s)) _ (leaves-number _ _ _ (dropped 1 s h)) (λ v r k.
-      leaves-pick (v =? 0) (leaves-wrong _ (dropped 1 s h)) (leaves-got _ r k))
+  leaves_minus : (s : List ℕ) → length s ≤ n → Leaves n (read_minus s)
+  unfolding read_minus
+  leaves_minus s h =
+      leaves_next (read_number_of 32768 32 (drop 1 s)) _ (leaves_number _ _ _ (dropped 1 s h)) (λ v r k.
+      leaves_pick (v =? 0) (leaves_wrong _ (dropped 1 s h)) (leaves_got _ r k))
 
-  leaves-height : (s : List ℕ) → length s ≤ n → Leaves n (readHeight s)
-  unfolding readHeight
-  leaves-height s h =
-      leaves-pick (byte 0 s =? 45) (leaves-minus s h)
-      (leaves-next (readNumber 32767 32 s) _ (leaves-number _ _ s h) (λ v r. leaves-got _ r))
+  leaves_height : (s : List ℕ) → length s ≤ n → Leaves n (read_height_of s)
+  unfolding read_height_of
+  leaves_height s h =
+      leaves_pick (byte 0 s =? 45) (leaves_minus s h)
+      (leaves_next (read_number_of 32767 32 s) _ (leaves_number _ _ s h) (λ v r. leaves_got _ r))
 
-  leaves-line : (ws s : List ℕ) → length s ≤ n → Leaves n (readLine ws s)
-  unfolding readLine
-  leaves-line ws s h = leaves-next (readWords ws s) _ (leaves-words ws s h) (λ _ r. leaves-number _ _ r)
+  leaves_line : (ws s : List ℕ) → length s ≤ n → Leaves n (read_line_of ws s)
+  unfolding read_line_of
+  leaves_line ws s h = leaves_next (read_words_of ws s) _ (leaves_words ws s h) (λ _ r. leaves_number _ _ r)
 
-  leaves-count : (s : List ℕ) → length s ≤ n → Leaves n (readCount s)
-  unfolding readCount
-  leaves-count s h =
-      leaves-next (readNumber _ _ s) _ (leaves-number _ _ s h) (λ v r k.
-      leaves-pick (v =? 0) (leaves-wrong s h) (leaves-got _ r k))
+  leaves_count : (s : List ℕ) → length s ≤ n → Leaves n (read_count s)
+  unfolding read_count
+  leaves_count s h =
+      leaves_next (read_number_of _ _ s) _ (leaves_number _ _ s h) (λ v r k.
+      leaves_pick (v =? 0) (leaves_wrong s h) (leaves_got _ r k))
 
-  leaves-answer : (i : ℕ) (s : List ℕ) → length s ≤ n → Leaves n (readAnswer i s)
-  unfolding readAnswer
-  leaves-answer i s h =
-      leaves-pick (starts_with (spelt "answer ") s)
-      (leaves-next (readNumber _ _ (drop 7 s)) _ (leaves-number _ _ _ (dropped 7 s h)) (λ j r k.
-      leaves-pick (j =? i) (leaves-count r k) (leaves-got _ s h)))
-      (leaves-got _ s h)
+  leaves_answer : (i : ℕ) (s : List ℕ) → length s ≤ n → Leaves n (read_answer_of i s)
+  unfolding read_answer_of
+  leaves_answer i s h =
+      leaves_pick (starts_with (spelt "answer ") s)
+      (leaves_next (read_number_of _ _ (drop 7 s)) _ (leaves_number _ _ _ (dropped 7 s h)) (λ j r k.
+      leaves_pick (j =? i) (leaves_count r k) (leaves_got _ s h)))
+      (leaves_got _ s h)
 
-  leaves-answers : (k i : ℕ) (s : List ℕ) → length s ≤ n → Leaves n (readAnswers k i s)
-  unfolding readAnswers
-  leaves-answers zero i s h = leaves-got _ s h
-  leaves-answers (suc k) i s h =
-      leaves-next (readAnswer i s) _ (leaves-answer i s h) (λ m r h'.
-      leaves-next (readAnswers k (i + 1) r) _ (leaves-answers k (i + 1) r h') (λ ms q. leaves-got _ q))
+  leaves_answers : (k i : ℕ) (s : List ℕ) → length s ≤ n → Leaves n (read_answers_of k i s)
+  unfolding read_answers_of
+  leaves_answers zero i s h = leaves_got _ s h
+  leaves_answers (suc k) i s h =
+      leaves_next (read_answer_of i s) _ (leaves_answer i s h) (λ m r h'.
+      leaves_next (read_answers_of k (i + 1) r) _ (leaves_answers k (i + 1) r h') (λ ms q. leaves_got _ q))
 
-  leaves-spot : (ws s : List ℕ) → length s ≤ n → Leaves n (readSpot ws s)
-  unfolding readSpot
-  leaves-spot ws s h =
-      leaves-next (readWords ws s) _ (leaves-words ws s h) (λ _ r h₁.
-      leaves-next (readHeight r) _ (leaves-height r h₁) (λ z q h₂.
-      leaves-next (readWords _ q) _ (leaves-words _ q h₂) (λ _ p h₃.
-      leaves-next (readNumber _ _ p) _ (leaves-number _ _ p h₃) (λ log o h₄.
-      leaves-next (readNumber _ _ o) _ (leaves-number _ _ o h₄) (λ place e. leaves-got _ e)))))
+  leaves_spot : (ws s : List ℕ) → length s ≤ n → Leaves n (read_spot_of ws s)
+  unfolding read_spot_of
+  leaves_spot ws s h =
+      leaves_next (read_words_of ws s) _ (leaves_words ws s h) (λ _ r h₁.
+      leaves_next (read_height_of r) _ (leaves_height r h₁) (λ z q h₂.
+      leaves_next (read_words_of _ q) _ (leaves_words _ q h₂) (λ _ p h₃.
+      leaves_next (read_number_of _ _ p) _ (leaves_number _ _ p h₃) (λ log o h₄.
+      leaves_next (read_number_of _ _ o) _ (leaves_number _ _ o h₄) (λ place e. leaves_got _ e)))))
 
-  leaves-pressure : (ws s : List ℕ) → length s ≤ n → Leaves n (readPressure ws s)
-  unfolding readPressure
-  leaves-pressure ws s h = leaves-next (readSpot ws s) _ (leaves-spot ws s h) (λ x r. leaves-got _ r)
+  leaves_pressure : (ws s : List ℕ) → length s ≤ n → Leaves n (read_pressure ws s)
+  unfolding read_pressure
+  leaves_pressure ws s h = leaves_next (read_spot_of ws s) _ (leaves_spot ws s h) (λ x r. leaves_got _ r)
 
-  leaves-gps : (ws s : List ℕ) → length s ≤ n → Leaves n (readGps ws s)
-  unfolding readGps
-  leaves-gps ws s h = leaves-next (readSpot ws s) _ (leaves-spot ws s h) (λ x r. leaves-got _ r)
+  leaves_gps : (ws s : List ℕ) → length s ≤ n → Leaves n (read_gps ws s)
+  unfolding read_gps
+  leaves_gps ws s h = leaves_next (read_spot_of ws s) _ (leaves_spot ws s h) (λ x r. leaves_got _ r)
 
-  leaves-range : {P : Type 0} (line : List ℕ → List ℕ → Read P) →
+  leaves_range : {P : Type 0} (line : List ℕ → List ℕ → Read P) →
       ((ws s : List ℕ) → length s ≤ n → Leaves n (line ws s)) → (datum s : List ℕ) → length s ≤ n →
-      Leaves n (readRange line datum s)
-  unfolding readRange
-  leaves-range line of datum s h =
-      leaves-pick (starts_with (noneLine datum) s) (leaves-got _ _ (dropped (length (noneLine datum)) s h))
-      (leaves-next (line _ s) _ (of _ s h) (λ high r h₁.
-      leaves-next (line _ r) _ (of _ r h₁) (λ low q. leaves-got _ q)))
+      Leaves n (read_range line datum s)
+  unfolding read_range
+  leaves_range line of datum s h =
+      leaves_pick (starts_with (none_line datum) s) (leaves_got _ _ (dropped (length (none_line datum)) s h))
+      (leaves_next (line _ s) _ (of _ s h) (λ high r h₁.
+      leaves_next (line _ r) _ (of _ r h₁) (λ low q. leaves_got _ q)))
 
-  leaves-time : (ws s : List ℕ) → length s ≤ n → Leaves n (readTime ws s)
-  unfolding readTime
-  leaves-time ws s h = leaves-next (readWords ws s) _ (leaves-words ws s h) (λ _ r. leaves-number _ _ r)
+  leaves_time : (ws s : List ℕ) → length s ≤ n → Leaves n (read_time_of ws s)
+  unfolding read_time_of
+  leaves_time ws s h = leaves_next (read_words_of ws s) _ (leaves_words ws s h) (λ _ r. leaves_number _ _ r)
 
-  leaves-times : (s : List ℕ) → length s ≤ n → Leaves n (readTimes s)
-  unfolding readTimes
-  leaves-times s h =
-      leaves-pick (starts_with (noneLine (spelt "time")) s)
-      (leaves-got _ _ (dropped (length (noneLine (spelt "time"))) s h))
-      (leaves-next (readTime _ s) _ (leaves-time _ s h) (λ early r h₁.
-      leaves-next (readTime _ r) _ (leaves-time _ r h₁) (λ late q. leaves-got _ q)))
+  leaves_times : (s : List ℕ) → length s ≤ n → Leaves n (read_times_of s)
+  unfolding read_times_of
+  leaves_times s h =
+      leaves_pick (starts_with (none_line (spelt "time")) s)
+      (leaves_got _ _ (dropped (length (none_line (spelt "time"))) s h))
+      (leaves_next (read_time_of _ s) _ (leaves_time _ s h) (λ early r h₁.
+      leaves_next (read_time_of _ r) _ (leaves_time _ r h₁) (λ late q. leaves_got _ q)))
 
   pub leaves_all : (s : List ℕ) → length s ≤ n → Leaves n (read_all s)
   unfolding read_all
   leaves_all s h =
-      leaves-next (readLine _ s) _ (leaves-line _ s h) (λ logs s₁ h₁.
-      leaves-next (readLine _ s₁) _ (leaves-line _ s₁ h₁) (λ lines s₂ h₂.
-      leaves-next (readAnswers _ _ s₂) _ (leaves-answers _ _ s₂ h₂) (λ answers s₃ h₃.
-      leaves-next (readLine _ s₃) _ (leaves-line _ s₃ h₃) (λ fixes s₄ h₄.
-      leaves-next (readRange readPressure _ s₄) _ (leaves-range readPressure leaves-pressure _ s₄ h₄) (λ p s₅ h₅.
-      leaves-next (readRange readGps _ s₅) _ (leaves-range readGps leaves-gps _ s₅ h₅) (λ g s₆ h₆.
-      leaves-next (readTimes s₆) _ (leaves-times s₆ h₆) (λ times s₇. leaves-got _ s₇)))))))
+      leaves_next (read_line_of _ s) _ (leaves_line _ s h) (λ logs s₁ h₁.
+      leaves_next (read_line_of _ s₁) _ (leaves_line _ s₁ h₁) (λ lines s₂ h₂.
+      leaves_next (read_answers_of _ _ s₂) _ (leaves_answers _ _ s₂ h₂) (λ answers s₃ h₃.
+      leaves_next (read_line_of _ s₃) _ (leaves_line _ s₃ h₃) (λ fixes s₄ h₄.
+      leaves_next (read_range read_pressure _ s₄) _ (leaves_range read_pressure leaves_pressure _ s₄ h₄) (λ p s₅ h₅.
+      leaves_next (read_range read_gps _ s₅) _ (leaves_range read_gps leaves_gps _ s₅ h₅) (λ g s₆ h₆.
+      leaves_next (read_times_of s₆) _ (leaves_times s₆ h₆) (λ times s₇. leaves_got _ s₇)))))))

@@ -1,7 +1,7 @@
 -- Reading undoes printing: what that says, and a law for each way in which readers are put together.
 use Rattle.text.specs.Prelude.{ℕ, ◌≡◌, true, List, [], ◌∷◌, ◌++◌, length, drop, pick}
-use Rattle.text.proofs.Prelude.{arith, refl, sym, ap, ◌∙◌, append_assoc, yes=, is=, both, holds, by-test, never}
-use Rattle.block_read.specs.Read.{Read, got, wrong, next, starts_with, readWords}
+use Rattle.text.proofs.Prelude.{arith, refl, sym, ap, ◌∙◌, append_assoc, yes=, is=, both, holds, by_test, never}
+use Rattle.block_read.specs.Read.{Read, got, wrong, next, starts_with, read_words_of}
 
 -- What was read of s as b, up to r, is made of a value that prints as what stands there.
 pub record Printed {A B : Type 0} (Ok : A → Type 0) (print : A → List ℕ) (made : A → B) (s : List ℕ) (b : B)
@@ -23,8 +23,8 @@ pub record Undoes {A B : Type 0} (Ok : A → Type 0) (print : A → List ℕ) (m
 
 -- ---- what was read
 
-pub not-got : {A X : Type 0} {s r : List ℕ} {a : A} → wrong s ≡ got a r → X
-not-got h = let z : ◌≡◌ {A = ℕ} 0 1 = cc in let f : ⊥ = omega arith in absurd f
+pub not_got : {A X : Type 0} {s r : List ℕ} {a : A} → wrong s ≡ got a r → X
+not_got h = let z : ◌≡◌ {A = ℕ} 0 1 = cc in let f : ⊥ = omega arith in absurd f
 
 pub got_same : {A : Type 0} {a b : A} {q r : List ℕ} → got a q ≡ got b r → (a ≡ b) × (q ≡ r)
 got_same h = (cc, cc)
@@ -33,7 +33,7 @@ pub came_from : {A B : Type 0} (m : Read A) (f : A → List ℕ → Read B) {b :
     (a : A) × (q : List ℕ) × (m ≡ got a q) × (f a q ≡ got b r)
 unfolding next
 came_from (got a q) f h = (a, q, refl, h)
-came_from (wrong s) f h = not-got h
+came_from (wrong s) f h = not_got h
 
 -- ---- one after the other
 
@@ -45,9 +45,9 @@ in_row printA printB x = printA x.0 ++ printB x.1
 
 module _ {A B C : Type 0} {OkA : A → Type 0} {OkB : B → Type 0} {printA : A → List ℕ} {printB : B → List ℕ}
     {read_a : List ℕ → Read A} {made : A → B → C} {read : A → List ℕ → Read C} where
-  pub then-printed : Prints OkA printA (λ a. a) read_a → ((a : A) → Prints OkB printB (made a) (read a)) →
+  pub then_printed : Prints OkA printA (λ a. a) read_a → ((a : A) → Prints OkB printB (made a) (read a)) →
       Prints (Both OkA OkB) (in_row printA printB) (λ x. made x.0 x.1) (λ s. next (read_a s) read)
-  then-printed f g s c r h =
+  then_printed f g s c r h =
       let m = came_from (read_a s) read h in
       let p = f s m.0 m.1 m.2 in
       let q = g m.0 m.1 c r m.3 in
@@ -61,26 +61,26 @@ module _ {A B C : Type 0} {OkA : A → Type 0} {OkB : B → Type 0} {printA : A 
       }
 
   -- the first need be read only where the second stands behind it
-  pub then-before :
+  pub then_before :
       ((a : A) (b : B) (r : List ℕ) → OkA a → read_a (printA a ++ (printB b ++ r)) ≡ got a (printB b ++ r)) →
       Prints OkA printA (λ a. a) read_a → ((a : A) → Undoes OkB printB (made a) (read a)) →
       Undoes (Both OkA OkB) (in_row printA printB) (λ x. made x.0 x.1) (λ s. next (read_a s) read)
   unfolding next
-  then-before f g u = record {
+  then_before f g u = record {
     reads = λ x r ok. rw (append_assoc, f x.0 x.1 r ok.0) ((u x.0).reads x.1 r ok.1);
-    printed = then-printed g (λ a. (u a).printed);
+    printed = then_printed g (λ a. (u a).printed);
   }
 
   pub then : Undoes OkA printA (λ a. a) read_a → ((a : A) → Undoes OkB printB (made a) (read a)) →
       Undoes (Both OkA OkB) (in_row printA printB) (λ x. made x.0 x.1) (λ s. next (read_a s) read)
-  then u = then-before (λ a b r. u.reads a (printB b ++ r)) u.printed
+  then u = then_before (λ a b r. u.reads a (printB b ++ r)) u.printed
 
 -- ---- what is made of a value, and how it is seen
 
-pub into-printed : {A B C : Type 0} {Ok : A → Type 0} {print : A → List ℕ} {made : A → B} {read : List ℕ → Read B} →
+pub into_printed : {A B C : Type 0} {Ok : A → Type 0} {print : A → List ℕ} {made : A → B} {read : List ℕ → Read B} →
     Prints Ok print made read → (f : B → C) →
     Prints Ok print (λ a. f (made a)) (λ s. next (read s) (λ b r. got (f b) r))
-into-printed {print} {read} g f s c r h =
+into_printed {print} {read} g f s c r h =
     let m = came_from (read s) (λ b r. got (f b) r) h in
     let p = g s m.0 m.1 m.2 in
     let e = got_same m.3 in
@@ -95,7 +95,7 @@ module _ {A B : Type 0} {Ok : A → Type 0} {print : A → List ℕ} {made : A �
     (u : Undoes Ok print made read) where
   pub into : {C : Type 0} (f : B → C) → Undoes Ok print (λ a. f (made a)) (λ s. next (read s) (λ b r. got (f b) r))
   unfolding next
-  into f = record { reads = λ a r ok. rw (u.reads a r ok); printed = into-printed u.printed f }
+  into f = record { reads = λ a r ok. rw (u.reads a r ok); printed = into_printed u.printed f }
 
   -- the same values, seen as others
   pub seen : {C : Type 0} {Ok' : C → Type 0} (view : C → A) (back : A → C) → ((a : A) → view (back a) ≡ a) →
@@ -124,46 +124,46 @@ module _ {A B : Type 0} {Ok : A → Type 0} {print : A → List ℕ} {made : A �
 
 -- ---- words
 
-pub starts-with : (ws r : List ℕ) → starts_with ws (ws ++ r) ≡ true
+pub starts_with_lem : (ws r : List ℕ) → starts_with ws (ws ++ r) ≡ true
 unfolding starts_with
-starts-with [] r = refl
-starts-with (w ∷ ws) r = holds (yes= refl) (starts-with ws r)
+starts_with_lem [] r = refl
+starts_with_lem (w ∷ ws) r = holds (yes= refl) (starts_with_lem ws r)
 
-pub drop-front : (ws r : List ℕ) → drop (length ws) (ws ++ r) ≡ r
-drop-front [] r = refl
-drop-front (w ∷ ws) r = drop-front ws r
+pub drop_front : (ws r : List ℕ) → drop (length ws) (ws ++ r) ≡ r
+drop_front [] r = refl
+drop_front (w ∷ ws) r = drop_front ws r
 
-pub starts-so : (ws s : List ℕ) → starts_with ws s ≡ true → s ≡ ws ++ drop (length ws) s
+pub starts_so : (ws s : List ℕ) → starts_with ws s ≡ true → s ≡ ws ++ drop (length ws) s
 unfolding starts_with
-starts-so [] s h = refl
-starts-so (w ∷ ws) [] h = never h refl
-starts-so (w ∷ ws) (b ∷ s) h = let k = both h in rw (is= k.0) (ap (λ t. b ∷ t) (starts-so ws s k.1))
+starts_so [] s h = refl
+starts_so (w ∷ ws) [] h = never h refl
+starts_so (w ∷ ws) (b ∷ s) h = let k = both h in rw (is= k.0) (ap (λ t. b ∷ t) (starts_so ws s k.1))
 
-pub words-read : (ws r : List ℕ) → readWords ws (ws ++ r) ≡ got tt r
-unfolding readWords pick
-words-read ws r = rw (starts-with ws r, drop-front ws r)
+pub words_read : (ws r : List ℕ) → read_words_of ws (ws ++ r) ≡ got tt r
+unfolding read_words_of pick
+words_read ws r = rw (starts_with_lem ws r, drop_front ws r)
 
-pub words-printed : (ws s q : List ℕ) (u : Unit) → readWords ws s ≡ got u q → s ≡ ws ++ q
-unfolding readWords pick
-words-printed ws s q u h =
-    by-test (starts_with ws s)
-    (λ e. starts-so ws s e ∙ ap (λ t. ws ++ t) (got_same (rw e at h)).1)
-    (λ e. not-got (rw e at h))
+pub words_printed : (ws s q : List ℕ) (u : Unit) → read_words_of ws s ≡ got u q → s ≡ ws ++ q
+unfolding read_words_of pick
+words_printed ws s q u h =
+    by_test (starts_with ws s)
+    (λ e. starts_so ws s e ∙ ap (λ t. ws ++ t) (got_same (rw e at h)).1)
+    (λ e. not_got (rw e at h))
 
 pub behind : (ws : List ℕ) {A B : Type 0} {Ok : A → Type 0} {print : A → List ℕ} {made : A → B}
     {read : List ℕ → Read B} → Undoes Ok print made read →
-    Undoes Ok (λ a. ws ++ print a) made (λ s. next (readWords ws s) (λ _ r. read r))
+    Undoes Ok (λ a. ws ++ print a) made (λ s. next (read_words_of ws s) (λ _ r. read r))
 unfolding next
 behind ws {print} {read} u = record {
-  reads = λ a r ok. rw (append_assoc, words-read ws (print a ++ r)) (u.reads a r ok);
+  reads = λ a r ok. rw (append_assoc, words_read ws (print a ++ r)) (u.reads a r ok);
   printed = λ s b r h.
-      let m = came_from (readWords ws s) (λ _ r. read r) h in
+      let m = came_from (read_words_of ws s) (λ _ r. read r) h in
       let p = u.printed m.1 b r m.3 in
       record {
         value = p.value;
         is = p.is;
         text =
-            words-printed ws s m.1 m.0 m.2 ∙ ap (λ t. ws ++ t) p.text
+            words_printed ws s m.1 m.0 m.2 ∙ ap (λ t. ws ++ t) p.text
             ∙ sym (append_assoc ws (print p.value) r);
         ok = p.ok;
       };

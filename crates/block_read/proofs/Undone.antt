@@ -1,30 +1,30 @@
 -- The block of all logs is undone.
 use Rattle.text.specs.Prelude.{pick, ◌=?◌, ◌∧?◌}
-use Rattle.text.specs.Spelt.{spelt, speltFrom}
+use Rattle.text.specs.Spelt.{spelt, spelt_from}
 use Rattle.text.proofs.Prelude.{refl, append_assoc, yes≤, is≤, both, and}
 use Rattle.span.specs.Span.{all_fit}
-use Rattle.total.specs.Total.{totalFits}
-use Rattle.sheet_text.specs.Sheet.{numberLine, heightLine, pressureSpotLine, gpsSpotLine, countLines, figureLines}
-use Rattle.sheet_text.specs.Sheet.{allText}
+use Rattle.total.specs.Total.{total_fits}
+use Rattle.sheet_text.specs.Sheet.{number_line, height_line, pressure_spot_line, gps_spot_line, count_lines, figure_lines}
+use Rattle.sheet_text.specs.Sheet.{all_text}
 use Rattle.block_read.specs.Read.{starts_with}
 use Rattle.block_read.specs.Block.{read_all}
 use Rattle.block_read.specs.Laws.{PressureFits, GpsFits, InFields, ReadsBack}
 use Rattle.block_read.proofs.Undoing.{Undoes, then, into, seen, told}
-use Rattle.block_read.proofs.LinesUndone.{line, pressure, gps, range-lines, times}
-use Rattle.block_read.proofs.AnswersUndone.{answers-then}
+use Rattle.block_read.proofs.LinesUndone.{line, pressure, gps, range_lines_lem, times}
+use Rattle.block_read.proofs.AnswersUndone.{answers_then}
 
-all-undone : Undoes InFields allText (λ t. t) read_all
-unfolding read_all allText figureLines countLines numberLine pressureSpotLine gpsSpotLine heightLine totalFits all_fit
-    starts_with spelt speltFrom ◌=?◌ ◌∧?◌ pick
-all-undone =
+all_undone : Undoes InFields all_text (λ t. t) read_all
+unfolding read_all all_text figure_lines count_lines number_line pressure_spot_line gps_spot_line height_line total_fits all_fit
+    starts_with spelt spelt_from ◌=?◌ ◌∧?◌ pick
+all_undone =
     told
     (seen
     (then (line (spelt "all ")) (λ logs.
     then (line (spelt "lines ")) (λ lines.
-    answers-then (λ answers.
+    answers_then (λ answers.
     then (line (spelt "fixes ")) (λ fixes.
-    then (range-lines PressureFits _ (λ ws p. refl) pressure (spelt "pressure")) (λ pressure.
-    then (range-lines GpsFits _ (λ ws p. refl) gps (spelt "gps")) (λ gps.
+    then (range_lines_lem PressureFits _ (λ ws p. refl) pressure (spelt "pressure")) (λ pressure.
+    then (range_lines_lem GpsFits _ (λ ws p. refl) gps (spelt "gps")) (λ gps.
     into times (λ times.
     record {
       logs = logs;
@@ -69,9 +69,9 @@ all-undone =
     }))
     (λ t. simp append_assoc)
 
-pub reads-back : ReadsBack
-reads-back = record {
-  reads = all-undone.reads;
-  printed = λ s t r h. let p = all-undone.printed s t r h in rw p.is p.text;
-  fields = λ s t r h. let p = all-undone.printed s t r h in rw p.is p.ok;
+pub reads_back : ReadsBack
+reads_back = record {
+  reads = all_undone.reads;
+  printed = λ s t r h. let p = all_undone.printed s t r h in rw p.is p.text;
+  fields = λ s t r h. let p = all_undone.printed s t r h in rw p.is p.ok;
 }

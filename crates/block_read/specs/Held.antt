@@ -1,6 +1,6 @@
 -- What the code carries from reader to reader: a place, and whether all before it was as it should be.
 use Rattle.text.specs.Prelude.{ℕ, ◌≤◌, ◌≡◌, List, [], ◌∷◌, length, drop, pick, ◌≤?◌, largest}
-use Rattle.block_read.specs.Read.{Read, got, wrong, frontFrom}
+use Rattle.block_read.specs.Read.{Read, got, wrong, front_from}
 use Rattle.block_read.specs.declared.{number.Place.Place, number.FrontRead.FrontRead}
 
 -- A value that was read, with the text behind its place; or the text from where on it is wrong.
@@ -17,9 +17,9 @@ pub record Came {A : Type 0} (text : List ℕ) (from : Place) (read : List ℕ �
   pub inside : to.at ≤ length text
 
 -- The value of the digits in front, where it fits 64 bits.
-unfoldable pub frontOf : List ℕ → List ℕ
-frontOf s = pick (frontFrom 0 s ≤? largest) (frontFrom 0 s ∷ []) []
+unfoldable pub front_of : List ℕ → List ℕ
+front_of s = pick (front_from 0 s ≤? largest) (front_from 0 s ∷ []) []
 
-abbrev pub frontIn : FrontRead → List ℕ
-frontIn (FrontRead.Value n) = n ∷ []
-frontIn FrontRead.TooLarge = []
+abbrev pub front_in : FrontRead → List ℕ
+front_in (FrontRead.Value n) = n ∷ []
+front_in FrontRead.TooLarge = []

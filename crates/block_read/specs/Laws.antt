@@ -2,9 +2,9 @@
 use Rattle.text.specs.Prelude.{ℕ, ◌≤◌, ◌≡◌, true, List, ◌++◌, length, ℤ, pos, negsuc, largest}
 use Rattle.report.specs.Counts.{numbers}
 use Rattle.span.specs.declared.{pressure.PressureSpot.PressureSpot, gps.GpsSpot.GpsSpot}
-use Rattle.total.specs.Total.{Totals, totalFits}
+use Rattle.total.specs.Total.{Totals, total_fits}
 use Rattle.total.specs.Laws.{OfBoth}
-use Rattle.sheet_text.specs.Sheet.{allText}
+use Rattle.sheet_text.specs.Sheet.{all_text}
 use Rattle.block_read.specs.Read.{got}
 use Rattle.block_read.specs.Block.{read_all}
 
@@ -27,7 +27,7 @@ pub record GpsFits (s : GpsSpot) : Type 0 where
 
 -- A total as the code holds it: every number fits its field, and there is a count for each answer.
 pub record InFields (t : Totals) : Type 0 where
-  pub counts : totalFits t ≡ true
+  pub counts : total_fits t ≡ true
   pub answers : length t.figures.answers ≡ numbers
   pub pressure : OfBoth PressureFits t.figures.pressure
   pub gps : OfBoth GpsFits t.figures.gps
@@ -35,7 +35,7 @@ pub record InFields (t : Totals) : Type 0 where
 
 pub record ReadsBack : Type 0 where
   -- Reading what was printed gives the total, whatever stands behind it.
-  pub reads : (t : Totals) (r : List ℕ) → InFields t → read_all (allText t ++ r) ≡ got t r
+  pub reads : (t : Totals) (r : List ℕ) → InFields t → read_all (all_text t ++ r) ≡ got t r
   -- What was read is what the total prints, and no other text is read as a total.
-  pub printed : (s : List ℕ) (t : Totals) (r : List ℕ) → read_all s ≡ got t r → s ≡ allText t ++ r
+  pub printed : (s : List ℕ) (t : Totals) (r : List ℕ) → read_all s ≡ got t r → s ≡ all_text t ++ r
   pub fields : (s : List ℕ) (t : Totals) (r : List ℕ) → read_all s ≡ got t r → InFields t

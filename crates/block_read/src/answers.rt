@@ -1,12 +1,12 @@
 // How many lines have each answer.
 ghost use Rattle.std.specs.Prelude.{◌≤◌, length};
 ghost use Rattle.report.specs.Counts.{numbers};
-ghost use Rattle.block_read.specs.Block.{readAnswer, readAnswers};
+ghost use Rattle.block_read.specs.Block.{read_answer_of, read_answers_of};
 ghost use Rattle.block_read.specs.Held.{Came};
 
 use crate::number::{NumberRead, Place, read_number, read_words, wrong_at};
 
-#[derive(Drop)]
+#[derive(Clone, Copy)]
 pub(crate) struct AnswersRead {
     pub counts: [u64; 13],
     pub place: Place,
@@ -15,7 +15,7 @@ pub(crate) struct AnswersRead {
 // How many lines have that answer: none where the line of another stands there, or of no answer.
 fn read_answer(text: &[u8], from: Place, answer: u64) -> NumberRead
     requires { from.at ≤ length text.now }
-    ensures { Came text.now from (readAnswer answer) result.place result.value }
+    ensures { Came text.now from (read_answer_of answer) result.place result.value }
 {
     let word = read_words(text, from, b"answer ");
     if !word.good {
@@ -51,7 +51,7 @@ fn read_answer(text: &[u8], from: Place, answer: u64) -> NumberRead
 // How many lines have each answer.
 pub(crate) fn read_answers(text: &[u8], from: Place) -> AnswersRead
     requires { from.at ≤ length text.now }
-    ensures { Came text.now from (readAnswers numbers 0) result.place result.counts }
+    ensures { Came text.now from (read_answers_of numbers 0) result.place result.counts }
 {
     let mut counts = [0u64; 13];
     let mut place = from;

@@ -1,21 +1,21 @@
 // GPS heights over all logs. No place that wants a pressure height takes one.
 ghost use Rattle.std.specs.Prelude.{◌≤◌, length};
 ghost use Rattle.text.specs.Spelt.{spelt};
-ghost use Rattle.span.specs.Span.{gpsOver};
-ghost use Rattle.block_read.specs.Block.{readGps, readRange};
+ghost use Rattle.span.specs.Span.{gps_over};
+ghost use Rattle.block_read.specs.Block.{read_gps, read_range};
 ghost use Rattle.block_read.specs.Held.{Came};
 
 use crate::number::{Place, read_spot, read_words};
 use b_record::GpsAlt;
 use span::gps::{GpsSpan, GpsSpot};
 
-#[derive(Drop)]
+#[derive(Clone, Copy)]
 struct GpsRead {
     spot: GpsSpot,
     place: Place,
 }
 
-#[derive(Drop)]
+#[derive(Clone, Copy)]
 pub(crate) struct GpsSpanRead {
     pub span: GpsSpan,
     pub place: Place,
@@ -24,7 +24,7 @@ pub(crate) struct GpsSpanRead {
 // A height behind its words, with its place.
 fn read_height(text: &[u8], from: Place, words: &[u8]) -> GpsRead
     requires { from.at ≤ length text.now }
-    ensures { Came text.now from (readGps words.now) result.place result.spot }
+    ensures { Came text.now from (read_gps words.now) result.place result.spot }
 {
     let read = read_spot(text, from, words);
     let place = read.place;
@@ -39,8 +39,8 @@ fn read_height(text: &[u8], from: Place, words: &[u8]) -> GpsRead
 // None; or the highest and then the lowest.
 pub(crate) fn read_span(text: &[u8], from: Place) -> GpsSpanRead
     requires { from.at ≤ length text.now }
-    ensures { Came text.now from (readRange readGps (spelt "gps")) result.place
-        (gpsOver result.span) }
+    ensures { Came text.now from (read_range read_gps (spelt "gps")) result.place
+        (gps_over result.span) }
 {
     let none = read_words(text, from, b"gps none\n");
     if none.good {

@@ -6,7 +6,7 @@ mod pressure;
 mod times;
 
 ghost use Rattle.std.specs.Prelude.{◌≤◌, ◌≡◌, length};
-ghost use Rattle.total.specs.Total.{totalIn};
+ghost use Rattle.total.specs.Total.{total_in};
 ghost use Rattle.block_read.specs.Read.{starts_with};
 ghost use Rattle.block_read.specs.Block.{read_all, block_of, block_read};
 ghost use Rattle.block_read.specs.Held.{Came};
@@ -17,7 +17,7 @@ use crate::times::read_times;
 use total::Total;
 
 // How many bytes were read; where they are no block, the text is wrong from there on, and this is the total of no logs.
-#[derive(Drop)]
+#[derive(Clone, Copy)]
 pub struct BlockRead {
     pub total: Total,
     pub end: usize,
@@ -25,7 +25,7 @@ pub struct BlockRead {
 }
 
 // The total that was read, and the place behind it.
-#[derive(Drop)]
+#[derive(Clone, Copy)]
 struct AllRead {
     total: Total,
     place: Place,
@@ -34,7 +34,7 @@ struct AllRead {
 // The block of all logs.
 fn read_all(text: &[u8], from: Place) -> AllRead
     requires { from.at ≤ length text.now }
-    ensures { Came text.now from read_all result.place (totalIn result.total) }
+    ensures { Came text.now from read_all result.place (total_in result.total) }
 {
     let logs = read_line(text, from, b"all ");
     let lines = read_line(text, logs.place, b"lines ");

@@ -1,34 +1,34 @@
 // Words and numbers of a sheet. Each is read from a place on and says the place behind it; once one is not what should
 // stand there, those that follow stay where it was.
 ghost use Rattle.std.specs.Prelude.{◌+◌, ◌≤◌, ◌≡◌, false, length, drop};
-ghost use Rattle.block_read.specs.Read.{starts_with, readWords, readNumber, readHeight, readLine};
-ghost use Rattle.block_read.specs.Block.{readSpot};
-ghost use Rattle.block_read.specs.Held.{Came, frontIn, frontOf};
+ghost use Rattle.block_read.specs.Read.{starts_with, read_words_of, read_number_of, read_height_of, read_line_of};
+ghost use Rattle.block_read.specs.Block.{read_spot_of};
+ghost use Rattle.block_read.specs.Held.{Came, front_in, front_of};
 
 use print::number::put_nat;
 use put::put_byte;
 
 // A place in the text, and whether all before it was as it should be.
-#[derive(Drop)]
+#[derive(Clone, Copy)]
 pub(crate) struct Place {
     pub at: usize,
     pub good: bool,
 }
 
-#[derive(Drop)]
+#[derive(Clone, Copy)]
 pub(crate) struct NumberRead {
     pub value: u64,
     pub place: Place,
 }
 
-#[derive(Drop)]
+#[derive(Clone, Copy)]
 struct HeightRead {
     value: i16,
     place: Place,
 }
 
 // A height, whatever its datum, with log number and byte offset.
-#[derive(Drop)]
+#[derive(Clone, Copy)]
 pub(crate) struct SpotRead {
     pub height: i16,
     pub log: u64,
@@ -36,7 +36,7 @@ pub(crate) struct SpotRead {
     pub place: Place,
 }
 
-#[derive(Drop)]
+#[derive(Clone, Copy)]
 enum FrontRead {
     Value(u64),
     TooLarge,
@@ -73,7 +73,7 @@ pub(crate) fn stands(text: &[u8], at: usize, words: &[u8]) -> bool
 // The words, and the place behind them.
 pub(crate) fn read_words(text: &[u8], from: Place, words: &[u8]) -> Place
     requires { from.at ≤ length text.now }
-    ensures { Came text.now from (readWords words.now) result tt }
+    ensures { Came text.now from (read_words_of words.now) result tt }
 {
     if !from.good {
         return from;
@@ -90,7 +90,7 @@ pub(crate) fn read_words(text: &[u8], from: Place, words: &[u8]) -> Place
 // The value of the digits that stand there; none where it passes 64 bits.
 fn front(text: &[u8], at: usize) -> FrontRead
     requires { at ≤ length text.now }
-    ensures { frontIn result ≡ frontOf (drop at text.now) }
+    ensures { front_in result ≡ front_of (drop at text.now) }
 {
     let mut value: u64 = 0;
     let mut i = at;
@@ -115,7 +115,7 @@ fn front(text: &[u8], at: usize) -> FrontRead
 // A number of at most `most`, as it prints, and the byte that closes it.
 pub(crate) fn read_number(text: &[u8], from: Place, most: u64, close: u8) -> NumberRead
     requires { from.at ≤ length text.now }
-    ensures came { Came text.now from (readNumber most close) result.place result.value }
+    ensures came { Came text.now from (read_number_of most close) result.place result.value }
     ensures value_le_most { result.value ≤ most }
 {
     let FrontRead::Value(value) = front(text, from.at) else {
@@ -142,7 +142,7 @@ pub(crate) fn read_number(text: &[u8], from: Place, most: u64, close: u8) -> Num
 // A height, as it prints, and a space.
 fn read_height(text: &[u8], from: Place) -> HeightRead
     requires { from.at ≤ length text.now }
-    ensures { Came text.now from readHeight result.place result.value }
+    ensures { Came text.now from read_height_of result.place result.value }
 {
     let minus = read_words(text, from, b"-");
     if !minus.good {
@@ -170,7 +170,7 @@ fn read_height(text: &[u8], from: Place) -> HeightRead
 // A line of words and a number.
 pub(crate) fn read_line(text: &[u8], from: Place, words: &[u8]) -> NumberRead
     requires { from.at ≤ length text.now }
-    ensures { Came text.now from (readLine words.now) result.place result.value }
+    ensures { Came text.now from (read_line_of words.now) result.place result.value }
 {
     let at_number = read_words(text, from, words);
     read_number(text, at_number, 0xffff_ffff_ffff_ffff, b'\n')
@@ -179,7 +179,7 @@ pub(crate) fn read_line(text: &[u8], from: Place, words: &[u8]) -> NumberRead
 // A line of words, a height and its place.
 pub(crate) fn read_spot(text: &[u8], from: Place, words: &[u8]) -> SpotRead
     requires { from.at ≤ length text.now }
-    ensures { Came text.now from (readSpot words.now) result.place
+    ensures { Came text.now from (read_spot_of words.now) result.place
         (result.height, (result.log, result.offset)) }
 {
     let at_height = read_words(text, from, words);

@@ -1,21 +1,21 @@
 // Pressure heights over all logs. No place that wants a GPS height takes one.
 ghost use Rattle.std.specs.Prelude.{◌≤◌, length};
 ghost use Rattle.text.specs.Spelt.{spelt};
-ghost use Rattle.span.specs.Span.{pressureOver};
-ghost use Rattle.block_read.specs.Block.{readPressure, readRange};
+ghost use Rattle.span.specs.Span.{pressure_over};
+ghost use Rattle.block_read.specs.Block.{read_pressure, read_range};
 ghost use Rattle.block_read.specs.Held.{Came};
 
 use crate::number::{Place, read_spot, read_words};
 use b_record::PressureAlt;
 use span::pressure::{PressureSpan, PressureSpot};
 
-#[derive(Drop)]
+#[derive(Clone, Copy)]
 struct PressureRead {
     spot: PressureSpot,
     place: Place,
 }
 
-#[derive(Drop)]
+#[derive(Clone, Copy)]
 pub(crate) struct PressureSpanRead {
     pub span: PressureSpan,
     pub place: Place,
@@ -24,7 +24,7 @@ pub(crate) struct PressureSpanRead {
 // A height behind its words, with its place.
 fn read_height(text: &[u8], from: Place, words: &[u8]) -> PressureRead
     requires { from.at ≤ length text.now }
-    ensures { Came text.now from (readPressure words.now) result.place result.spot }
+    ensures { Came text.now from (read_pressure words.now) result.place result.spot }
 {
     let read = read_spot(text, from, words);
     let place = read.place;
@@ -39,8 +39,8 @@ fn read_height(text: &[u8], from: Place, words: &[u8]) -> PressureRead
 // None; or the highest and then the lowest.
 pub(crate) fn read_span(text: &[u8], from: Place) -> PressureSpanRead
     requires { from.at ≤ length text.now }
-    ensures { Came text.now from (readRange readPressure (spelt "pressure")) result.place
-        (pressureOver result.span) }
+    ensures { Came text.now from (read_range read_pressure (spelt "pressure")) result.place
+        (pressure_over result.span) }
 {
     let none = read_words(text, from, b"pressure none\n");
     if none.good {

@@ -1,19 +1,19 @@
 // The earliest time and the latest.
 ghost use Rattle.std.specs.Prelude.{◌≤◌, length};
-ghost use Rattle.report.specs.Report.{timesIn};
-ghost use Rattle.block_read.specs.Block.{readTime, readTimes};
+ghost use Rattle.report.specs.Report.{times_in};
+ghost use Rattle.block_read.specs.Block.{read_time_of, read_times_of};
 ghost use Rattle.block_read.specs.Held.{Came};
 
 use crate::number::{Place, read_number, read_words};
 use report::times::TimeRange;
 
-#[derive(Drop)]
+#[derive(Clone, Copy)]
 struct TimeRead {
     value: u32,
     place: Place,
 }
 
-#[derive(Drop)]
+#[derive(Clone, Copy)]
 pub(crate) struct TimesRead {
     pub times: TimeRange,
     pub place: Place,
@@ -22,7 +22,7 @@ pub(crate) struct TimesRead {
 // A time behind its words.
 fn read_time(text: &[u8], from: Place, words: &[u8]) -> TimeRead
     requires { from.at ≤ length text.now }
-    ensures { Came text.now from (readTime words.now) result.place result.value }
+    ensures { Came text.now from (read_time_of words.now) result.place result.value }
 {
     let at_time = read_words(text, from, words);
     let time = read_number(text, at_time, 4294967295, b'\n');
@@ -36,7 +36,7 @@ fn read_time(text: &[u8], from: Place, words: &[u8]) -> TimeRead
 // No times; or the earliest and then the latest.
 pub(crate) fn read_times(text: &[u8], from: Place) -> TimesRead
     requires { from.at ≤ length text.now }
-    ensures { Came text.now from readTimes result.place (timesIn result.times) }
+    ensures { Came text.now from read_times_of result.place (times_in result.times) }
 {
     let none = read_words(text, from, b"time none\n");
     if none.good {

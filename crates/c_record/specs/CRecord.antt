@@ -1,12 +1,12 @@
 -- C lines: which of them is a turnpoint's, and a task's declaration.
 use Rattle.text.specs.Prelude.{ℕ, code, Bool, true, List, [], ◌∷◌, ◌++◌, length, replicate, Res, ok, no, bind, guard}
-use Rattle.text.specs.Prelude.{pick, ◌≤?◌, ◌=?◌, ◌∧?◌, ◌∨?◌, byte, cut, columns, readNat, readInt, zeros, padded}
+use Rattle.text.specs.Prelude.{pick, ◌≤?◌, ◌=?◌, ◌∧?◌, ◌∨?◌, byte, cut, columns, read_nat_of, read_int_of, zeros, padded}
 use Rattle.text.specs.Prelude.{signed}
-use Rattle.part.specs.Part.{nameFrom, maybeText, maybeBytes}
+use Rattle.part.specs.Part.{name_from, maybe_text, maybe_bytes}
 use Rattle.text.specs.declared.refusal.Refusal.TheVariants.{Syntax}
-use Rattle.field.specs.Field.{asciiIn}
-use Rattle.time.specs.Time.{readTime, timeText, timeBook}
-use Rattle.date.specs.Date.{readDate, dateText, dateBook}
+use Rattle.field.specs.Field.{ascii_in}
+use Rattle.time.specs.Time.{read_time_of, time_text, time_book}
+use Rattle.date.specs.Date.{read_date, date_text, date_book}
 use Rattle.c_record.specs.declared.{MaybeDate.MaybeDate, FlightRead.FlightRead, Task.Task, TaskRead.TaskRead}
 use Rattle.c_record.specs.declared.{CRecordDeclaration.CRecordDeclaration, DeclarationRead.DeclarationRead}
 use Rattle.c_record.specs.declared.MaybeDate.TheVariants.{Missing, On}
@@ -18,77 +18,77 @@ turns s = (byte 8 s =? code "N") ∨? (byte 8 s =? code "S")
 -- ---- declarations
 
 -- A flight date; `000000` is none.
-unfoldable pub readFlight : List ℕ → Res MaybeDate
-readFlight s = pick (zeros s) (ok Missing) (bind (readDate s) (λ d. ok (On d)))
+unfoldable pub read_flight_of : List ℕ → Res MaybeDate
+read_flight_of s = pick (zeros s) (ok Missing) (bind (read_date s) (λ d. ok (On d)))
 
 -- Task 19-23, count 23-25.
-unfoldable pub readTask : List ℕ → Res Task
-readTask s =
-    bind (columns 19 23 (readNat 65535) s) (λ id.
-    bind (columns 23 25 (readInt 127) s) (λ count.
+unfoldable pub read_task_of : List ℕ → Res Task
+read_task_of s =
+    bind (columns 19 23 (read_nat_of 65535) s) (λ id.
+    bind (columns 23 25 (read_int_of 127) s) (λ count.
     ok (record { id = id; count = count })))
 
 -- 25 bytes (1), the first C (1), those ASCII (2), date 1-7, time 7-13, flight date 13-19, task, count, name; an empty
 -- name is none.
-unfoldable pub readDeclaration : List ℕ → Res CRecordDeclaration
-readDeclaration s =
+unfoldable pub read_declaration : List ℕ → Res CRecordDeclaration
+read_declaration s =
     guard (25 ≤? length s) Syntax
     (guard (byte 0 s =? code "C") Syntax
-    (asciiIn (cut 0 25 s)
-    (bind (columns 1 7 readDate s) (λ date.
-    bind (columns 7 13 readTime s) (λ time.
-    bind (columns 13 19 readFlight s) (λ flight.
-    bind (readTask s) (λ task.
+    (ascii_in (cut 0 25 s)
+    (bind (columns 1 7 read_date s) (λ date.
+    bind (columns 7 13 read_time_of s) (λ time.
+    bind (columns 13 19 read_flight_of s) (λ flight.
+    bind (read_task_of s) (λ task.
     ok (record {
       date = date;
       time = time;
       flight_date = flight;
       task_id = task.id;
       turnpoint_count = task.count;
-      task_name = nameFrom 25 s;
+      task_name = name_from 25 s;
     }))))))))
 
 -- A flight date; six zeros for none.
-unfoldable pub flightText : MaybeDate → List ℕ
-flightText Missing = replicate 6 (code "0")
-flightText (On d) = dateText d
+unfoldable pub flight_text : MaybeDate → List ℕ
+flight_text Missing = replicate 6 (code "0")
+flight_text (On d) = date_text d
 
 -- Flight date, task in width 4, count in 2, name.
-unfoldable pub taskText : CRecordDeclaration → List ℕ → List ℕ
-taskText r name = flightText r.flight_date
+unfoldable pub task_text : CRecordDeclaration → List ℕ → List ℕ
+task_text r name = flight_text r.flight_date
     ++ (padded 4 r.task_id ++ (signed 2 r.turnpoint_count ++ name))
 
 -- The letter, date, time, and these.
-unfoldable pub declarationBody : CRecordDeclaration → List ℕ → List ℕ
-declarationBody r name = (code "C" ∷ []) ++ (dateText r.date ++ (timeText r.time ++ taskText r name))
+unfoldable pub declaration_body : CRecordDeclaration → List ℕ → List ℕ
+declaration_body r name = (code "C" ∷ []) ++ (date_text r.date ++ (time_text r.time ++ task_text r name))
 
 -- The same with the parts that the line has; one that lies outside is left out.
-abbrev pub declarationPiece : CRecordDeclaration → List ℕ → List ℕ
-declarationPiece r s = declarationBody r (maybeBytes r.task_name s)
+abbrev pub declaration_piece : CRecordDeclaration → List ℕ → List ℕ
+declaration_piece r s = declaration_body r (maybe_bytes r.task_name s)
 
 -- The text of a declaration beside its line; 9 where the name lies outside.
-unfoldable pub declarationText : CRecordDeclaration → List ℕ → Res (List ℕ)
-declarationText r s = bind (maybeText r.task_name s) (λ name. ok (declarationBody r name))
+unfoldable pub declaration_text : CRecordDeclaration → List ℕ → Res (List ℕ)
+declaration_text r s = bind (maybe_text r.task_name s) (λ name. ok (declaration_body r name))
 
 -- No flight date passes.
-unfoldable pub flightBook : MaybeDate → Bool
-flightBook Missing = true
-flightBook (On d) = dateBook d
+unfoldable pub flight_book : MaybeDate → Bool
+flight_book Missing = true
+flight_book (On d) = date_book d
 
 -- By the book: its dates and its time are.
-unfoldable pub declarationBook : CRecordDeclaration → Bool
-declarationBook r = dateBook r.date ∧? timeBook r.time ∧? flightBook r.flight_date
+unfoldable pub declaration_book : CRecordDeclaration → Bool
+declaration_book r = date_book r.date ∧? time_book r.time ∧? flight_book r.flight_date
 
 -- ---- the answers of the code
 
-abbrev pub flightRes : FlightRead → Res MaybeDate
-flightRes (FlightRead.Ok v) = ok v
-flightRes (FlightRead.Refused n) = no n
+abbrev pub flight_res : FlightRead → Res MaybeDate
+flight_res (FlightRead.Ok v) = ok v
+flight_res (FlightRead.Refused n) = no n
 
-abbrev pub taskRes : TaskRead → Res Task
-taskRes (TaskRead.Ok v) = ok v
-taskRes (TaskRead.Refused n) = no n
+abbrev pub task_res : TaskRead → Res Task
+task_res (TaskRead.Ok v) = ok v
+task_res (TaskRead.Refused n) = no n
 
-abbrev pub declarationRes : DeclarationRead → Res CRecordDeclaration
-declarationRes (DeclarationRead.Ok v) = ok v
-declarationRes (DeclarationRead.Refused n) = no n
+abbrev pub declaration_res : DeclarationRead → Res CRecordDeclaration
+declaration_res (DeclarationRead.Ok v) = ok v
+declaration_res (DeclarationRead.Refused n) = no n

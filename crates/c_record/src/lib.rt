@@ -1,12 +1,12 @@
 // C lines, as src/records/c_record.rs has them: which of them is a turnpoint's, and a task's declaration.
 ghost use Rattle.std.specs.Prelude.{◌≡◌, ◌≤◌, length};
-ghost use Rattle.part.specs.Part.{findMaybe, maybeBytes, shown, Shows};
+ghost use Rattle.part.specs.Part.{find_maybe, maybe_bytes, shown, Shows};
 ghost use Rattle.text.specs.Number.{zeros};
 ghost use Rattle.put.specs.Put.{Wrote};
 ghost use Rattle.print.specs.Print.{Prints};
-ghost use Rattle.c_record.specs.CRecord.{turns, readFlight, readTask, readDeclaration, flightText, taskText};
-ghost use Rattle.c_record.specs.CRecord.{declarationPiece, declarationText, flightBook, declarationBook};
-ghost use Rattle.c_record.specs.CRecord.{flightRes, taskRes, declarationRes};
+ghost use Rattle.c_record.specs.CRecord.{turns, read_flight_of, read_task_of, read_declaration, flight_text, task_text};
+ghost use Rattle.c_record.specs.CRecord.{declaration_piece, declaration_text, flight_book, declaration_book};
+ghost use Rattle.c_record.specs.CRecord.{flight_res, task_res, declaration_res};
 
 use date::{Date, DateRead};
 use field::is_ascii;
@@ -19,13 +19,13 @@ use text::refusal::Refusal;
 use time::{Time, TimeRead};
 
 // A date that may be missing, in the place of the Rust's `Option<Date>`.
-#[derive(Drop)]
+#[derive(Clone, Copy)]
 pub enum MaybeDate {
     Missing,
     On(Date),
 }
 
-#[derive(Drop)]
+#[derive(Clone, Copy)]
 pub struct CRecordDeclaration {
     pub task_name: MaybePart,
     pub task_id: u16,
@@ -35,25 +35,25 @@ pub struct CRecordDeclaration {
     pub flight_date: MaybeDate,
 }
 
-#[derive(Drop)]
+#[derive(Clone, Copy)]
 struct Task {
     id: u16,
     count: i8,
 }
 
-#[derive(Drop)]
+#[derive(Clone, Copy)]
 enum FlightRead {
     Ok(MaybeDate),
     Refused(Refusal),
 }
 
-#[derive(Drop)]
+#[derive(Clone, Copy)]
 enum TaskRead {
     Ok(Task),
     Refused(Refusal),
 }
 
-#[derive(Drop)]
+#[derive(Clone, Copy)]
 pub enum DeclarationRead {
     Ok(CRecordDeclaration),
     Refused(Refusal),
@@ -87,7 +87,7 @@ fn all_zeros(text: &[u8]) -> bool
 
 // A flight date; `000000` is none.
 fn read_flight(text: &[u8]) -> FlightRead
-    ensures { flightRes result ≡ readFlight text.now }
+    ensures { flight_res result ≡ read_flight_of text.now }
 {
     if all_zeros(text) {
         return FlightRead::Ok(MaybeDate::Missing);
@@ -100,7 +100,7 @@ fn read_flight(text: &[u8]) -> FlightRead
 
 fn read_task(line: &[u8]) -> TaskRead
     requires { 25 ≤ length line.now }
-    ensures { taskRes result ≡ readTask line.now }
+    ensures { task_res result ≡ read_task_of line.now }
 {
     let id = match read_u16(&line[19..23]) {
         U16Read::Ok(number) => number,
@@ -113,7 +113,7 @@ fn read_task(line: &[u8]) -> TaskRead
 }
 
 fn put_flight(buf: &mut [u8], at: usize, flight: MaybeDate) -> usize
-    ensures { Wrote buf.old at (flightText flight) buf.new result }
+    ensures { Wrote buf.old at (flight_text flight) buf.new result }
 {
     match flight {
         MaybeDate::Missing => put_bytes(buf, at, b"000000"),
@@ -122,7 +122,7 @@ fn put_flight(buf: &mut [u8], at: usize, flight: MaybeDate) -> usize
 }
 
 fn flight_by_the_book(flight: MaybeDate) -> bool
-    ensures { result ≡ flightBook flight }
+    ensures { result ≡ flight_book flight }
 {
     match flight {
         MaybeDate::Missing => true,
@@ -133,7 +133,7 @@ fn flight_by_the_book(flight: MaybeDate) -> bool
 impl CRecordDeclaration {
     // Reads a task's declaration.
     pub fn parse(line: &[u8]) -> DeclarationRead
-        ensures { declarationRes result ≡ readDeclaration line.now }
+        ensures { declaration_res result ≡ read_declaration line.now }
     {
         if line.len() < 25 {
             return DeclarationRead::Refused(Refusal::Syntax);
@@ -171,7 +171,7 @@ impl CRecordDeclaration {
 
     // The task's name, as a part of the caller's own line.
     pub fn task_name(self, line: &[u8]) -> &[u8]
-        ensures { Shows line.entry (shown (findMaybe self.task_name line.now)) result }
+        ensures { Shows line.entry (shown (find_maybe self.task_name line.now)) result }
     {
         let name = self.task_name;
         name.view(line)
@@ -179,7 +179,7 @@ impl CRecordDeclaration {
 
     // Its dates and its time are by the book; no flight date passes.
     pub fn by_the_book(self) -> bool
-        ensures { result ≡ declarationBook self }
+        ensures { result ≡ declaration_book self }
     {
         let date = self.date;
         let time = self.time;
@@ -195,7 +195,7 @@ impl CRecordDeclaration {
     // From the flight date on.
     fn put_task(self, buf: &mut [u8], at: usize, line: &[u8]) -> usize
         ensures { Wrote buf.old
-            at (taskText self (maybeBytes self.task_name line.now)) buf.new result }
+            at (task_text self (maybe_bytes self.task_name line.now)) buf.new result }
     {
         let flight = self.flight_date;
         let name = self.task_name;
@@ -208,7 +208,7 @@ impl CRecordDeclaration {
     // The text as a piece of a larger one, from a place on: bytes that are too short cut it, and what lies outside the
     // line is left out. `print` is the printer.
     pub fn put_piece(self, buf: &mut [u8], at: usize, line: &[u8]) -> usize
-        ensures { Wrote buf.old at (declarationPiece self line.now) buf.new result }
+        ensures { Wrote buf.old at (declaration_piece self line.now) buf.new result }
     {
         let date = self.date;
         let time = self.time;
@@ -220,7 +220,7 @@ impl CRecordDeclaration {
 
     // Prints the record beside its line.
     pub fn print(self, line: &[u8], buf: &mut [u8]) -> Printed
-        ensures { Prints (declarationText self line.now) buf.old buf.new result }
+        ensures { Prints (declaration_text self line.now) buf.old buf.new result }
     {
         let name = self.task_name;
         match name.find(line) {

@@ -1,10 +1,10 @@
 // Turnpoints of a task, as src/records/c_record.rs has them.
 ghost use Rattle.std.specs.Prelude.{◌≡◌};
-ghost use Rattle.part.specs.Part.{findMaybe, shown, Shows};
+ghost use Rattle.part.specs.Part.{find_maybe, shown, Shows};
 ghost use Rattle.put.specs.Put.{Wrote};
 ghost use Rattle.print.specs.Print.{Prints};
-ghost use Rattle.c_turnpoint_record.specs.CTurnpoint.{readTurnpoint, turnpointPiece, turnpointText};
-ghost use Rattle.c_turnpoint_record.specs.CTurnpoint.{turnpointBook, turnpointRes};
+ghost use Rattle.c_turnpoint_record.specs.CTurnpoint.{read_turnpoint, turnpoint_piece, turnpoint_text};
+ghost use Rattle.c_turnpoint_record.specs.CTurnpoint.{turnpoint_book, turnpoint_res};
 
 use field::is_ascii;
 use part::{Found, MaybePart};
@@ -13,13 +13,13 @@ use print::printed::Printed;
 use put::{put_byte, put_maybe};
 use text::refusal::Refusal;
 
-#[derive(Drop)]
+#[derive(Clone, Copy)]
 pub struct CRecordTurnpoint {
     pub turnpoint_name: MaybePart,
     pub position: RawPosition,
 }
 
-#[derive(Drop)]
+#[derive(Clone, Copy)]
 pub enum TurnpointRead {
     Ok(CRecordTurnpoint),
     Refused(Refusal),
@@ -28,7 +28,7 @@ pub enum TurnpointRead {
 impl CRecordTurnpoint {
     // Reads a turnpoint.
     pub fn parse(line: &[u8]) -> TurnpointRead
-        ensures { turnpointRes result ≡ readTurnpoint line.now }
+        ensures { turnpoint_res result ≡ read_turnpoint line.now }
     {
         if line.len() < 18 {
             return TurnpointRead::Refused(Refusal::Syntax);
@@ -50,7 +50,7 @@ impl CRecordTurnpoint {
 
     // The turnpoint's name, as a part of the caller's own line.
     pub fn turnpoint_name(self, line: &[u8]) -> &[u8]
-        ensures { Shows line.entry (shown (findMaybe self.turnpoint_name line.now)) result }
+        ensures { Shows line.entry (shown (find_maybe self.turnpoint_name line.now)) result }
     {
         let name = self.turnpoint_name;
         name.view(line)
@@ -58,7 +58,7 @@ impl CRecordTurnpoint {
 
     // Its position is by the book.
     pub fn by_the_book(self) -> bool
-        ensures { result ≡ turnpointBook self }
+        ensures { result ≡ turnpoint_book self }
     {
         let position = self.position;
         position.by_the_book()
@@ -67,7 +67,7 @@ impl CRecordTurnpoint {
     // The text as a piece of a larger one, from a place on: bytes that are too short cut it, and what lies outside the
     // line is left out. `print` is the printer.
     pub fn put_piece(self, buf: &mut [u8], at: usize, line: &[u8]) -> usize
-        ensures { Wrote buf.old at (turnpointPiece self line.now) buf.new result }
+        ensures { Wrote buf.old at (turnpoint_piece self line.now) buf.new result }
     {
         let position = self.position;
         let name = self.turnpoint_name;
@@ -78,7 +78,7 @@ impl CRecordTurnpoint {
 
     // Prints the record beside its line.
     pub fn print(self, line: &[u8], buf: &mut [u8]) -> Printed
-        ensures { Prints (turnpointText self line.now) buf.old buf.new result }
+        ensures { Prints (turnpoint_text self line.now) buf.old buf.new result }
     {
         let name = self.turnpoint_name;
         match name.find(line) {

@@ -11,5 +11,5 @@ unfoldable pub february : ℕ → ℕ
 february y = pick (y % 4 =? 0) 29 28
 
 -- The days of the m-th month, from 1; any other month has none.
-unfoldable pub daysIn : ℕ → ℕ → ℕ
-daysIn m y = get_or (0 ∷ months (february y)) m 0
+unfoldable pub days_in_of : ℕ → ℕ → ℕ
+days_in_of m y = get_or (0 ∷ months (february y)) m 0

@@ -1,6 +1,6 @@
 -- The Gregorian calendar by its full rules, and that the days of a month are those of 1980 to 2079.
 use Rattle.text.specs.Prelude.{ℕ, ◌+◌, ◌%◌, ◌≤◌, ◌≡◌, Bool, not, pick, ◌≤?◌, ◌=?◌, ◌∧?◌, ◌∨?◌}
-use Rattle.calendar.specs.Days.{daysIn}
+use Rattle.calendar.specs.Days.{days_in_of}
 
 -- Every fourth year is a leap year; of the years that a hundred divides only those that four hundred divides.
 unfoldable pub leap : ℕ → Bool
@@ -13,13 +13,13 @@ gregorian m year =
     (pick (m =? 2) (pick (leap year) 29 28) 31)
 
 -- The year that two digits stand for.
-unfoldable pub fullYear : ℕ → ℕ
-fullYear y = pick (80 ≤? y) (1900 + y) (2000 + y)
+unfoldable pub full_year : ℕ → ℕ
+full_year y = pick (80 ≤? y) (1900 + y) (2000 + y)
 
 -- The days of each month, from 1980 to 2079, are the calendar's.
 abbrev pub DaysOfTheCalendar : Type 0
-DaysOfTheCalendar = (m y : ℕ) → 1 ≤ m → m ≤ 12 → y ≤ 99 → daysIn m y ≡ gregorian m (fullYear y)
+DaysOfTheCalendar = (m y : ℕ) → 1 ≤ m → m ≤ 12 → y ≤ 99 → days_in_of m y ≡ gregorian m (full_year y)
 
 -- There are twelve months: outside them no day exists.
 abbrev pub NoOtherMonth : Type 0
-NoOtherMonth = (y : ℕ) → (daysIn 0 y ≡ 0) × ((m : ℕ) → 13 ≤ m → daysIn m y ≡ 0)
+NoOtherMonth = (y : ℕ) → (days_in_of 0 y ≡ 0) × ((m : ℕ) → 13 ≤ m → days_in_of m y ≡ 0)

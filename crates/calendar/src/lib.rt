@@ -1,6 +1,6 @@
 // The calendar of two-digit years, which the Rust does not have: its dates take a 30 February.
 ghost use Rattle.std.specs.Prelude.{◌≡◌};
-ghost use Rattle.calendar.specs.Days.{february, daysIn};
+ghost use Rattle.calendar.specs.Days.{february, days_in_of};
 
 // 29 days in every fourth year.
 fn february(year: u8) -> u8
@@ -14,7 +14,7 @@ fn february(year: u8) -> u8
 
 // How many days a month has; none where there is no such month.
 pub fn days_in(month: u8, year: u8) -> u8
-    ensures { result ≡ daysIn month year }
+    ensures { result ≡ days_in_of month year }
 {
     match month {
         1 => 31,

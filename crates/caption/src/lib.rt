@@ -1,7 +1,7 @@
 // A point's caption: its own name in its line, or the club's label in a text that is lent beside the line.
 ghost use Rattle.std.specs.Prelude.{◌≡◌, ◌+◌, ◌≤◌, length};
-ghost use Rattle.log.specs.Log.{chunks};
-ghost use Rattle.caption.specs.Caption.{nth, captionOf, ShowsOne};
+ghost use Rattle.igc_log.specs.Log.{chunks};
+ghost use Rattle.caption.specs.Caption.{nth, caption_of, ShowsOne};
 
 use ahead::cut_ahead;
 use c_turnpoint_record::CRecordTurnpoint;
@@ -32,7 +32,7 @@ fn nth_line(text: &[u8], n: usize) -> Part
 // where there is something in it, else the n-th label.
 pub fn caption<'a>(point: CRecordTurnpoint, line: &'a [u8], labels: &'a [u8], n: usize) -> &'a [u8]
     ensures { ShowsOne line.entry labels.entry
-        (captionOf point n line.now labels.now) result }
+        (caption_of point n line.now labels.now) result }
 {
     let name = point.turnpoint_name(line);
     if 0 < name.len() {

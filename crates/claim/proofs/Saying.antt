@@ -1,50 +1,50 @@
 -- What the verdict says.
 use Rattle.text.specs.Prelude.{ℕ, zero, suc, ◌+◌, ◌≤◌, ◌<◌, max, ◌≡◌, Bool, true, false, List, [], ◌∷◌, ◌++◌, length}
 use Rattle.text.specs.Prelude.{◌-◌, take, drop, pick, ◌≤?◌, ◌=?◌, ◌∨?◌}
-use Rattle.text.proofs.Prelude.{arith, refl, sym, ap, ◌∙◌, first, second, take_all, no=, is≤, isnt≤, and, by-test}
+use Rattle.text.proofs.Prelude.{arith, refl, sym, ap, ◌∙◌, first, second, take_all, no=, is≤, isnt≤, and, by_test}
 use Rattle.text.proofs.Prelude.{never}
 use native.Mathlib.Nat.{add-zero}
 use lib.Seq.{take-add}
-use Rattle.log.specs.Fold.{over}
+use Rattle.igc_log.specs.Fold.{over}
 use Rattle.walk.specs.Readings.{Line-read}
 use Rattle.claim_line.specs.Asked.{asked_of}
 use Rattle.claim_line.specs.declared.Asked.{Asked}
 use Rattle.claim.specs.Rules.{is_none, holds, breaks}
-use Rattle.claim.specs.Claim.{allHold, firstBroken, leastNot, failingLine, claim_of}
-use Rattle.claim.specs.Step.{is_yes, fresh, lineVerdict, passed, failed, judged, claimStep, verdictAtEnd}
+use Rattle.claim.specs.Claim.{all_hold, first_broken, least_not, failing_line, claim_of}
+use Rattle.claim.specs.Step.{is_yes, fresh, line_verdict_of, passed, failed, judged, claim_step, verdict_at_end}
 use Rattle.claim.specs.Laws.{order_of, NamesFirst, Says}
 use Rattle.claim.specs.declared.{verdict.Rule.Rule, verdict.Verdict.Verdict, Sofar.Sofar}
-use Rattle.claim.proofs.Deciding.{holds-all, all-holds, decides}
-use Rattle.claim.proofs.Stepping.{no-stays-over}
-use Rattle.claim.proofs.Tests.{∨?-true, broken-here}
-use Rattle.claim.proofs.Lines.{one-more-line}
+use Rattle.claim.proofs.Deciding.{holds_all, all_holds, decides}
+use Rattle.claim.proofs.Stepping.{no_stays_over}
+use Rattle.claim.proofs.Tests.{∨?-true, broken_here}
+use Rattle.claim.proofs.Lines.{one_more_line}
 
 -- ---- the least number for which a test fails
 
 module _ (t : ℕ → Bool) where
-  least-from : (k n : ℕ) → k ≤ leastNot t k n
-  unfolding leastNot pick
-  least-from k zero = omega arith
-  least-from k (suc n) =
-      by-test (t k) (λ e. rw e (omega (arith, least-from (k + 1) n))) (λ e. rw e (omega arith))
+  least_from : (k n : ℕ) → k ≤ least_not t k n
+  unfolding least_not pick
+  least_from k zero = omega arith
+  least_from k (suc n) =
+      by_test (t k) (λ e. rw e (omega (arith, least_from (k + 1) n))) (λ e. rw e (omega arith))
 
-  least-before : (k n j : ℕ) → k ≤ j → j < leastNot t k n → t j ≡ true
-  unfolding leastNot pick
-  least-before k zero j a b = let f : ⊥ = omega arith in absurd f
-  least-before k (suc n) j a b =
-      by-test (t k)
-      (λ e. by-test (j ≤? k)
+  least_before : (k n j : ℕ) → k ≤ j → j < least_not t k n → t j ≡ true
+  unfolding least_not pick
+  least_before k zero j a b = let f : ⊥ = omega arith in absurd f
+  least_before k (suc n) j a b =
+      by_test (t k)
+      (λ e. by_test (j ≤? k)
       (λ h. let q : j ≡ k = omega (arith, is≤ h) in rw q e)
-      (λ h. least-before (k + 1) n j (omega (arith, isnt≤ h)) (rw e at b)))
+      (λ h. least_before (k + 1) n j (omega (arith, isnt≤ h)) (rw e at b)))
       (λ e. let h : j < k = rw e at b in let f : ⊥ = omega arith in absurd f)
 
-  least-fails : (k n : ℕ) → t (k + n) ≡ false → (leastNot t k (suc n) ≤ k + n) × (t (leastNot t k (suc n)) ≡ false)
-  unfolding leastNot pick
-  least-fails k zero e = let h : t k ≡ false = rw (add-zero k) at e in rw h (omega arith, h)
-  least-fails k (suc n) e =
+  least_fails : (k n : ℕ) → t (k + n) ≡ false → (least_not t k (suc n) ≤ k + n) × (t (least_not t k (suc n)) ≡ false)
+  unfolding least_not pick
+  least_fails k zero e = let h : t k ≡ false = rw (add-zero k) at e in rw h (omega arith, h)
+  least_fails k (suc n) e =
       let q : k + suc n ≡ k + 1 + n = omega arith in
-      by-test (t k)
-      (λ h. let l = least-fails (k + 1) n (rw q at e) in rw h (omega (arith, l.0), l.1))
+      by_test (t k)
+      (λ h. let l = least_fails (k + 1) n (rw q at e) in rw h (omega (arith, l.0), l.1))
       (λ h. rw h (omega arith, h))
 
 -- ---- the first rule that does not hold
@@ -60,44 +60,44 @@ picked_low r q = omega arith
 
 module _ (xs : List Line-read) where
   -- none that fails stands before it in the order
-  broken-low : (q : Rule) → holds q xs ≡ false → order_of (firstBroken xs) ≤ order_of q
-  unfolding firstBroken order_of
-  broken-low Rule.First h = rw h (picked_low _ _)
-  broken-low Rule.Table h = rw h (pick_low _ _ _ (omega arith) (picked_low _ _))
-  broken-low Rule.Long h =
+  broken_low : (q : Rule) → holds q xs ≡ false → order_of (first_broken xs) ≤ order_of q
+  unfolding first_broken order_of
+  broken_low Rule.First h = rw h (picked_low _ _)
+  broken_low Rule.Table h = rw h (pick_low _ _ _ (omega arith) (picked_low _ _))
+  broken_low Rule.Long h =
       rw h (pick_low _ _ _ (omega arith) (pick_low _ _ _ (omega arith) (picked_low _ _)))
-  broken-low Rule.Refused h =
+  broken_low Rule.Refused h =
       rw h
       (pick_low _ _ _ (omega arith)
       (pick_low _ _ _ (omega arith) (pick_low _ _ _ (omega arith) (picked_low _ _))))
-  broken-low Rule.Book h =
+  broken_low Rule.Book h =
       rw h
       (pick_low _ _ _ (omega arith)
       (pick_low _ _ _ (omega arith)
       (pick_low _ _ _ (omega arith) (pick_low _ _ _ (omega arith) (picked_low _ _)))))
-  broken-low Rule.Time h =
+  broken_low Rule.Time h =
       pick_low _ _ _ (omega arith)
       (pick_low _ _ _ (omega arith)
       (pick_low _ _ _ (omega arith)
       (pick_low _ _ _ (omega arith) (pick_low _ _ _ (omega arith) (omega arith)))))
 
   -- where the others hold the last fails
-  last-fails : allHold xs ≡ false → holds Rule.First xs ≡ true → holds Rule.Table xs ≡ true →
+  last_fails : all_hold xs ≡ false → holds Rule.First xs ≡ true → holds Rule.Table xs ≡ true →
       holds Rule.Long xs ≡ true → holds Rule.Refused xs ≡ true → holds Rule.Book xs ≡ true → holds Rule.Time xs ≡ false
-  unfolding allHold
-  last-fails n a b c d e =
-      by-test (holds Rule.Time xs) (λ f. never (and a (and b (and c (and d (and e f))))) n) (λ f. f)
+  unfolding all_hold
+  last_fails n a b c d e =
+      by_test (holds Rule.Time xs) (λ f. never (and a (and b (and c (and d (and e f))))) n) (λ f. f)
 
   -- and it fails itself
-  broken-fails : allHold xs ≡ false → holds (firstBroken xs) xs ≡ false
-  unfolding firstBroken pick
-  broken-fails n =
-      by-test (holds Rule.First xs)
-      (λ a. by-test (holds Rule.Table xs)
-      (λ b. by-test (holds Rule.Long xs)
-      (λ c. by-test (holds Rule.Refused xs)
-      (λ d. by-test (holds Rule.Book xs)
-      (λ e. rw (a, b, c, d, e) (last-fails n a b c d e))
+  broken_fails : all_hold xs ≡ false → holds (first_broken xs) xs ≡ false
+  unfolding first_broken pick
+  broken_fails n =
+      by_test (holds Rule.First xs)
+      (λ a. by_test (holds Rule.Table xs)
+      (λ b. by_test (holds Rule.Long xs)
+      (λ c. by_test (holds Rule.Refused xs)
+      (λ d. by_test (holds Rule.Book xs)
+      (λ e. rw (a, b, c, d, e) (last_fails n a b c d e))
       (λ e. rw (a, b, c, d, e) e))
       (λ d. rw (a, b, c, d) d))
       (λ c. rw (a, b, c) c))
@@ -118,102 +118,102 @@ unfolding is_none ◌=?◌ ◌∨?◌ pick
 so_far xs zero r h = refl
 so_far xs (suc n) r h = rw (h (omega arith)) (∨?-true (is_none (take (suc n) xs)))
 
-breaks-there : (xs : List Line-read) (n : ℕ) (r : Rule) → (1 ≤ n → holds r (take n xs) ≡ true) →
+breaks_there : (xs : List Line-read) (n : ℕ) (r : Rule) → (1 ≤ n → holds r (take n xs) ≡ true) →
     holds r (take (n + 1) xs) ≡ false → (x : Line-read) (later : List Line-read) → drop n xs ≡ x ∷ later →
     breaks r (take n xs) x ≡ true
-breaks-there xs n r h f x later e =
+breaks_there xs n r h f x later e =
     let w : holds r (take n xs ++ (x ∷ [])) ≡ false = rw (take_next xs n x later e) at f in
-    broken-here (so_far xs n r h) (one-more-line.line r (take n xs) x) ∙ rw w
+    broken_here (so_far xs n r h) (one_more_line.line r (take n xs) x) ∙ rw w
 
 -- ---- the verdict
 
 -- the line that a no names, and that one fails there
-failing : (xs : List Line-read) → allHold xs ≡ false →
-    (failingLine xs ≤ max 1 (length xs)) × (allHold (take (failingLine xs) xs) ≡ false)
-unfolding failingLine leastNot
+failing : (xs : List Line-read) → all_hold xs ≡ false →
+    (failing_line xs ≤ max 1 (length xs)) × (all_hold (take (failing_line xs) xs) ≡ false)
+unfolding failing_line least_not
 failing [] h = (omega arith, h)
 failing (x ∷ ys) h =
     let whole : take (1 + length ys) (x ∷ ys) ≡ x ∷ ys = take_all (1 + length ys) (x ∷ ys) (omega arith) in
-    let l = least-fails (λ k. allHold (take k (x ∷ ys))) 1 (length ys) (rw whole h) in
+    let l = least_fails (λ k. all_hold (take k (x ∷ ys))) 1 (length ys) (rw whole h) in
     (omega (arith, l.0), l.1)
 
-no-is : (xs : List Line-read) → allHold xs ≡ false →
-    Verdict.No (failingLine xs) (firstBroken (take (failingLine xs) xs)) ≡ claim_of xs
+no_is : (xs : List Line-read) → all_hold xs ≡ false →
+    Verdict.No (failing_line xs) (first_broken (take (failing_line xs) xs)) ≡ claim_of xs
 unfolding claim_of
-no-is xs h = second _ h refl
+no_is xs h = second _ h refl
 
-yes-is : (xs : List Line-read) → allHold xs ≡ true → Verdict.Yes ≡ claim_of xs
+yes_is : (xs : List Line-read) → all_hold xs ≡ true → Verdict.Yes ≡ claim_of xs
 unfolding claim_of
-yes-is xs h = first _ h refl
+yes_is xs h = first _ h refl
 
-says-yes : (xs : List Line-read) → claim_of xs ≡ Verdict.Yes → allHold xs ≡ true
+says_yes : (xs : List Line-read) → claim_of xs ≡ Verdict.Yes → all_hold xs ≡ true
 unfolding is_yes
-says-yes xs e =
-    by-test (allHold xs) (λ h. h) (λ h. let z : false ≡ true = ap is_yes (no-is xs h ∙ e) in never z refl)
+says_yes xs e =
+    by_test (all_hold xs) (λ h. h) (λ h. let z : false ≡ true = ap is_yes (no_is xs h ∙ e) in never z refl)
 
-says-no : (xs : List Line-read) (k : ℕ) (r : Rule) → claim_of xs ≡ Verdict.No k r → allHold xs ≡ false
+says_no : (xs : List Line-read) (k : ℕ) (r : Rule) → claim_of xs ≡ Verdict.No k r → all_hold xs ≡ false
 unfolding is_yes
-says-no xs k r e =
-    by-test (allHold xs) (λ h. let z : true ≡ false = ap is_yes (yes-is xs h ∙ e) in never refl z) (λ h. h)
+says_no xs k r e =
+    by_test (all_hold xs) (λ h. let z : true ≡ false = ap is_yes (yes_is xs h ∙ e) in never refl z) (λ h. h)
 
-names-first : (xs : List Line-read) (k : ℕ) (r : Rule) → claim_of xs ≡ Verdict.No k r → NamesFirst xs k r
-unfolding failingLine
-names-first xs k r e =
-    let n = says-no xs k r e in
-    let named = no-is xs n ∙ e in
-    let line : k ≡ failingLine xs = cc in
-    let rule : r ≡ firstBroken (take (failingLine xs) xs) = cc in
+names_first : (xs : List Line-read) (k : ℕ) (r : Rule) → claim_of xs ≡ Verdict.No k r → NamesFirst xs k r
+unfolding failing_line
+names_first xs k r e =
+    let n = says_no xs k r e in
+    let named = no_is xs n ∙ e in
+    let line : k ≡ failing_line xs = cc in
+    let rule : r ≡ first_broken (take (failing_line xs) xs) = cc in
     let fails = failing xs n in
-    let t : ℕ → Bool = λ k. allHold (take k xs) in
-    let from_one = least-from t 1 (length xs) in
-    let next : failingLine xs - 1 + 1 ≡ failingLine xs = omega (arith, from_one) in
-    let broken = broken-fails (take (failingLine xs) xs) fails.1 in
+    let t : ℕ → Bool = λ k. all_hold (take k xs) in
+    let from_one = least_from t 1 (length xs) in
+    let next : failing_line xs - 1 + 1 ≡ failing_line xs = omega (arith, from_one) in
+    let broken = broken_fails (take (failing_line xs) xs) fails.1 in
     rw (line, rule) (record {
       from_one = from_one;
       inside = fails.0;
-      earlier-lines = λ j a b q. all-holds (take j xs) (least-before t 1 (length xs) j a b) q;
+      earlier_lines = λ j a b q. all_holds (take j xs) (least_before t 1 (length xs) j a b) q;
       fails = broken;
-      earlier-rules = λ q h. by-test (holds q (take (failingLine xs) xs)) (λ a. a)
-          (λ a. let f : ⊥ = omega (arith, broken-low (take (failingLine xs) xs) q a) in absurd f);
-      at-line = breaks-there xs (failingLine xs - 1) _
-          (λ a. all-holds _ (least-before t 1 (length xs) (failingLine xs - 1) a (omega (arith, from_one))) _)
+      earlier_rules = λ q h. by_test (holds q (take (failing_line xs) xs)) (λ a. a)
+          (λ a. let f : ⊥ = omega (arith, broken_low (take (failing_line xs) xs) q a) in absurd f);
+      at_line = breaks_there xs (failing_line xs - 1) _
+          (λ a. all_holds _ (least_before t 1 (length xs) (failing_line xs - 1) a (omega (arith, from_one))) _)
           (rw next broken);
     })
 
 -- ---- what follows
 
-over-append : (c : Sofar) (xs ys : List Line-read) →
-    over claimStep c (xs ++ ys) ≡ over claimStep (over claimStep c xs) ys
+over_append : (c : Sofar) (xs ys : List Line-read) →
+    over claim_step c (xs ++ ys) ≡ over claim_step (over claim_step c xs) ys
 unfolding over
-over-append c [] ys = refl
-over-append c (x ∷ xs) ys = over-append (claimStep c x) xs ys
+over_append c [] ys = refl
+over_append c (x ∷ xs) ys = over_append (claim_step c x) xs ys
 
 -- where all have passed there are some
 abbrev Some : Sofar → Type 0
 Some c = is_yes c.verdict ≡ true → 1 ≤ c.lines
 
-some-judged : (c : Sofar) (l : Asked) → Some (judged c l)
+some_judged : (c : Sofar) (l : Asked) → Some (judged c l)
 unfolding judged passed failed pick
-some-judged c l =
-    by-test (is_yes (lineVerdict c l)) (λ e. rw e (λ h. omega arith)) (λ e. rw e (λ h. never h e))
+some_judged c l =
+    by_test (is_yes (line_verdict_of c l)) (λ e. rw e (λ h. omega arith)) (λ e. rw e (λ h. never h e))
 
-some_after : (c : Sofar) (x : Line-read) → Some (claimStep c x)
-unfolding claimStep pick
+some_after : (c : Sofar) (x : Line-read) → Some (claim_step c x)
+unfolding claim_step pick
 some_after c x =
-    by-test (is_yes c.verdict)
-    (λ e. rw e (some-judged c (asked_of x.line x.answer)))
+    by_test (is_yes c.verdict)
+    (λ e. rw e (some_judged c (asked_of x.line x.answer)))
     (λ e. rw e (λ h. never h e))
 
-some-over : (c : Sofar) (xs : List Line-read) → Some c → Some (over claimStep c xs)
+some_over : (c : Sofar) (xs : List Line-read) → Some c → Some (over claim_step c xs)
 unfolding over
-some-over c [] s = s
-some-over c (x ∷ xs) s = some-over (claimStep c x) xs (some_after c x)
+some_over c [] s = s
+some_over c (x ∷ xs) s = some_over (claim_step c x) xs (some_after c x)
 
 -- so a no is of a line
-of-line : (c : Sofar) (k : ℕ) (r : Rule) → Some c → verdictAtEnd c ≡ Verdict.No k r → is_yes c.verdict ≡ false
-unfolding verdictAtEnd is_yes pick
-of-line c k r s e =
-    by-test (is_yes c.verdict)
+of_line : (c : Sofar) (k : ℕ) (r : Rule) → Some c → verdict_at_end c ≡ Verdict.No k r → is_yes c.verdict ≡ false
+unfolding verdict_at_end is_yes pick
+of_line c k r s e =
+    by_test (is_yes c.verdict)
     (λ y.
     let n : (c.lines =? 0) ≡ false = no= (λ z. let f : ⊥ = omega (arith, s y) in f) in
     let z : true ≡ false = ap is_yes (rw (y, n) at e) in
@@ -225,15 +225,15 @@ stays : (xs ys : List Line-read) (k : ℕ) (r : Rule) → 1 ≤ length xs → cl
 unfolding over
 stays [] ys k r h e = let f : ⊥ = omega arith in absurd f
 stays (x ∷ xs) ys k r h e =
-    let c = over claimStep fresh (x ∷ xs) in
-    let end : verdictAtEnd c ≡ Verdict.No k r = decides.decides (x ∷ xs) ∙ e in
-    let n = of-line c k r (some-over (claimStep fresh x) xs (some_after fresh x)) end in
-    sym (decides.decides ((x ∷ xs) ++ ys)) ∙ rw (over-append fresh (x ∷ xs) ys, no-stays-over c ys n) end
+    let c = over claim_step fresh (x ∷ xs) in
+    let end : verdict_at_end c ≡ Verdict.No k r = decides.decides (x ∷ xs) ∙ e in
+    let n = of_line c k r (some_over (claim_step fresh x) xs (some_after fresh x)) end in
+    sym (decides.decides ((x ∷ xs) ++ ys)) ∙ rw (over_append fresh (x ∷ xs) ys, no_stays_over c ys n) end
 
 pub says : Says
 says = record {
-  yes = λ xs e r. all-holds xs (says-yes xs e) r;
-  all = λ xs h. sym (yes-is xs (holds-all xs h));
-  no = names-first;
+  yes = λ xs e r. all_holds xs (says_yes xs e) r;
+  all = λ xs h. sym (yes_is xs (holds_all xs h));
+  no = names_first;
   stays = stays;
 }

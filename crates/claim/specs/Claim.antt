@@ -5,8 +5,8 @@ use Rattle.claim.specs.Rules.{holds}
 use Rattle.claim.specs.declared.{verdict.Rule.Rule, verdict.Verdict.Verdict}
 
 -- All rules hold.
-unfoldable pub allHold : List Line-read → Bool
-allHold xs =
+unfoldable pub all_hold : List Line-read → Bool
+all_hold xs =
     holds Rule.First xs
     ∧? holds Rule.Table xs
     ∧? holds Rule.Long xs
@@ -15,8 +15,8 @@ allHold xs =
     ∧? holds Rule.Time xs
 
 -- The first rule, in the order of the request, that does not hold, where one does not.
-unfoldable pub firstBroken : List Line-read → Rule
-firstBroken xs =
+unfoldable pub first_broken : List Line-read → Rule
+first_broken xs =
     pick (not (holds Rule.First xs)) Rule.First
     (pick (not (holds Rule.Table xs)) Rule.Table
     (pick (not (holds Rule.Long xs)) Rule.Long
@@ -25,16 +25,16 @@ firstBroken xs =
     Rule.Time))))
 
 -- The least of n numbers from k on for which a test fails; where it fails for none, the number behind them.
-unfoldable pub leastNot : (ℕ → Bool) → ℕ → ℕ → ℕ
-leastNot test k zero = k
-leastNot test k (suc n) = pick (test k) (leastNot test (k + 1) n) k
+unfoldable pub least_not : (ℕ → Bool) → ℕ → ℕ → ℕ
+least_not test k zero = k
+least_not test k (suc n) = pick (test k) (least_not test (k + 1) n) k
 
 -- The first line at which a rule fails: the least number of lines, from 1 on, of which not all rules hold. A log with
 -- no lines fails at line 1.
-unfoldable pub failingLine : List Line-read → ℕ
-failingLine xs = leastNot (λ k. allHold (take k xs)) 1 (length xs)
+unfoldable pub failing_line : List Line-read → ℕ
+failing_line xs = least_not (λ k. all_hold (take k xs)) 1 (length xs)
 
 -- The verdict on the readings of a log.
 unfoldable pub claim_of : List Line-read → Verdict
 claim_of xs =
-    pick (allHold xs) Verdict.Yes (Verdict.No (failingLine xs) (firstBroken (take (failingLine xs) xs)))
+    pick (all_hold xs) Verdict.Yes (Verdict.No (failing_line xs) (first_broken (take (failing_line xs) xs)))

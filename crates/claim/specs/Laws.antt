@@ -1,13 +1,13 @@
 -- What the verdict says, and that the walk line by line, whatever the pieces of a log, decides it.
 use Rattle.text.specs.Prelude.{ℕ, ◌+◌, ◌-◌, ◌≤◌, ◌<◌, max, ◌≡◌, true, false, not, List, [], ◌∷◌, ◌++◌, length, take}
 use Rattle.text.specs.Prelude.{drop, ◌∧?◌, ◌∨?◌, largest}
-use Rattle.log.specs.Line.{hasLf}
-use Rattle.log.specs.Log.{closed, readings}
-use Rattle.log.specs.Fold.{over}
+use Rattle.igc_log.specs.Line.{has_lf_of}
+use Rattle.igc_log.specs.Log.{closed, readings}
+use Rattle.igc_log.specs.Fold.{over}
 use Rattle.walk.specs.Readings.{Line-read, reader}
 use Rattle.claim.specs.Rules.{is_none, holds, breaks}
 use Rattle.claim.specs.Claim.{claim_of}
-use Rattle.claim.specs.Step.{is_yes, fresh, claimStep, claimOn, verdictAtEnd}
+use Rattle.claim.specs.Step.{is_yes, fresh, claim_step, claim_on_of, verdict_at_end}
 use Rattle.claim.specs.declared.{verdict.Rule.Rule, verdict.Verdict.Verdict, Sofar.Sofar}
 
 -- The place of a rule in the order of the request.
@@ -30,10 +30,10 @@ pub record OneMore : Type 0 where
 pub record NamesFirst (xs : List Line-read) (k : ℕ) (r : Rule) : Type 0 where
   pub from_one : 1 ≤ k
   pub inside : k ≤ max 1 (length xs)
-  pub earlier-lines : (j : ℕ) → 1 ≤ j → j < k → (q : Rule) → holds q (take j xs) ≡ true
+  pub earlier_lines : (j : ℕ) → 1 ≤ j → j < k → (q : Rule) → holds q (take j xs) ≡ true
   pub fails : holds r (take k xs) ≡ false
-  pub earlier-rules : (q : Rule) → order_of q < order_of r → holds q (take k xs) ≡ true
-  pub at-line : (x : Line-read) (later : List Line-read) → drop (k - 1) xs ≡ x ∷ later →
+  pub earlier_rules : (q : Rule) → order_of q < order_of r → holds q (take k xs) ≡ true
+  pub at_line : (x : Line-read) (later : List Line-read) → drop (k - 1) xs ≡ x ∷ later →
       breaks r (take (k - 1) xs) x ≡ true
 
 -- The verdict is yes exactly when all hold, and a no names the first line at which one fails, and the first rule.
@@ -47,20 +47,20 @@ pub record Says : Type 0 where
 
 -- The walk line by line decides it.
 pub record Decides : Type 0 where
-  pub decides : (xs : List Line-read) → verdictAtEnd (over claimStep fresh xs) ≡ claim_of xs
+  pub decides : (xs : List Line-read) → verdict_at_end (over claim_step fresh xs) ≡ claim_of xs
 
 -- So it does for a log in pieces.
 pub record InPieces : Type 0 where
   -- A run of whole lines, and then what follows.
   pub two : (c : Sofar) (a b : List ℕ) → closed a ≡ true → c.lines + length a + length b ≤ largest →
-      claimOn (claimOn c a) b ≡ claimOn c (a ++ b)
+      claim_on_of (claim_on_of c a) b ≡ claim_on_of c (a ++ b)
   -- A whole log, from the start.
   pub whole : (log : List ℕ) → length log ≤ largest →
-      verdictAtEnd (claimOn fresh log) ≡ claim_of (readings reader log)
+      verdict_at_end (claim_on_of fresh log) ≡ claim_of (readings reader log)
 
 -- A line of which 78 bytes have come and no end fails, whatever follows: its text has 77 of them at least.
 pub record LongFront : Type 0 where
-  pub fails : (c : Sofar) (front : List ℕ) → hasLf front ≡ false → 78 ≤ length front →
-      is_yes (over claimStep c (readings reader front)).verdict ≡ false
-  pub stays : (c : Sofar) (front rest : List ℕ) → hasLf front ≡ false → 78 ≤ length front →
-      over claimStep c (readings reader (front ++ rest)) ≡ over claimStep c (readings reader front)
+  pub fails : (c : Sofar) (front : List ℕ) → has_lf_of front ≡ false → 78 ≤ length front →
+      is_yes (over claim_step c (readings reader front)).verdict ≡ false
+  pub stays : (c : Sofar) (front rest : List ℕ) → has_lf_of front ≡ false → 78 ≤ length front →
+      over claim_step c (readings reader (front ++ rest)) ≡ over claim_step c (readings reader front)

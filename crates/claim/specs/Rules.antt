@@ -2,26 +2,26 @@
 -- which line each fails.
 use Rattle.text.specs.Prelude.{ℕ, code, ◌+◌, Bool, true, false, not, List, [], ◌∷◌, length, pick, ◌≤?◌, ◌=?◌, ◌∧?◌}
 use Rattle.text.specs.Prelude.{◌∨?◌, begins}
-use Rattle.time.specs.Time.{secondsOf}
-use Rattle.records.specs.Record.{answerFix}
+use Rattle.time.specs.Time.{seconds_of_lem}
+use Rattle.records.specs.Record.{answer_fix}
 use Rattle.records.specs.declared.MaybeFix.{MaybeFix}
 use Rattle.report.specs.Figures.{earlier}
-use Rattle.report.specs.Report.{timeAt, shown}
+use Rattle.report.specs.Report.{time_at, shown}
 use Rattle.walk.specs.Readings.{Line-read}
-use Rattle.claim_line.specs.Asked.{isAccepted, isBook}
+use Rattle.claim_line.specs.Asked.{is_accepted_of, is_book_of}
 use Rattle.claim.specs.declared.verdict.Rule.{Rule}
 
 -- ---- some things, and a test of one
 
 module _ {X : Type 0} where
   -- How many of them have p.
-  unfoldable pub howMany : (X → Bool) → List X → ℕ
-  howMany p [] = 0
-  howMany p (x ∷ xs) = pick (p x) 1 0 + howMany p xs
+  unfoldable pub how_many : (X → Bool) → List X → ℕ
+  how_many p [] = 0
+  how_many p (x ∷ xs) = pick (p x) 1 0 + how_many p xs
 
   -- One of them has p.
   unfoldable pub some : (X → Bool) → List X → Bool
-  some p xs = 1 ≤? howMany p xs
+  some p xs = 1 ≤? how_many p xs
 
   -- Each of them has p.
   unfoldable pub every : (X → Bool) → List X → Bool
@@ -29,9 +29,9 @@ module _ {X : Type 0} where
   every p (x ∷ xs) = p x ∧? every p xs
 
   -- None of them that has p stands behind one that has q.
-  unfoldable pub noneBehind : (X → Bool) → (X → Bool) → List X → Bool
-  noneBehind p q [] = true
-  noneBehind p q (x ∷ xs) = not (q x ∧? some p xs) ∧? noneBehind p q xs
+  unfoldable pub none_behind : (X → Bool) → (X → Bool) → List X → Bool
+  none_behind p q [] = true
+  none_behind p q (x ∷ xs) = not (q x ∧? some p xs) ∧? none_behind p q xs
 
   -- There is none.
   unfoldable pub is_none : List X → Bool
@@ -44,74 +44,74 @@ unfoldable pub is_line : ℕ → Line-read → Bool
 is_line letter x = begins letter x.line
 
 -- Its text has at most 76 bytes. The LF that ends the line, and the one CR directly before it, are not of its text.
-unfoldable pub isShort : Line-read → Bool
-isShort x = length x.line ≤? 76
+unfoldable pub is_short : Line-read → Bool
+is_short x = length x.line ≤? 76
 
 -- ---- times
 
 -- How often one of these times, which follow on s, is before the one in front of it. An equal one is not.
-unfoldable pub backsAfter : ℕ → List ℕ → ℕ
-backsAfter s [] = 0
-backsAfter s (t ∷ ts) = pick (earlier t s) 1 0 + backsAfter t ts
+unfoldable pub backs_after : ℕ → List ℕ → ℕ
+backs_after s [] = 0
+backs_after s (t ∷ ts) = pick (earlier t s) 1 0 + backs_after t ts
 
 -- The same of times that follow on none.
-unfoldable pub stepsBack : List ℕ → ℕ
-stepsBack [] = 0
-stepsBack (t ∷ ts) = backsAfter t ts
+unfoldable pub steps_back : List ℕ → ℕ
+steps_back [] = 0
+steps_back (t ∷ ts) = backs_after t ts
 
 -- The seconds since midnight of the accepted B lines, in order.
-unfoldable pub timesOf : List Line-read → List ℕ
-timesOf xs = shown timeAt xs
+unfoldable pub times_of : List Line-read → List ℕ
+times_of xs = shown time_at xs
 
 -- ---- the rules
 
 -- The first line is an A line; where there are no lines, none is.
-unfoldable pub firstIsA : List Line-read → Bool
-firstIsA [] = false
-firstIsA (x ∷ xs) = is_line (code "A") x
+unfoldable pub first_is_a : List Line-read → Bool
+first_is_a [] = false
+first_is_a (x ∷ xs) = is_line (code "A") x
 
 -- There is at most one line of a letter, and none of it behind a B line.
-unfoldable pub onceBeforeB : ℕ → List Line-read → Bool
-onceBeforeB letter xs =
-    (howMany (is_line letter) xs ≤? 1) ∧? noneBehind (is_line letter) (is_line (code "B")) xs
+unfoldable pub once_before_b : ℕ → List Line-read → Bool
+once_before_b letter xs =
+    (how_many (is_line letter) xs ≤? 1) ∧? none_behind (is_line letter) (is_line (code "B")) xs
 
 -- What a rule says of all readings of a log.
 unfoldable pub holds : Rule → List Line-read → Bool
-holds Rule.First xs = firstIsA xs
-holds Rule.Table xs = onceBeforeB (code "I") xs ∧? onceBeforeB (code "J") xs
-holds Rule.Long xs = every isShort xs
-holds Rule.Refused xs = every (λ x. isAccepted x.answer) xs
-holds Rule.Book xs = every (λ x. isBook x.answer) xs
-holds Rule.Time xs = stepsBack (timesOf xs) ≤? 1
+holds Rule.First xs = first_is_a xs
+holds Rule.Table xs = once_before_b (code "I") xs ∧? once_before_b (code "J") xs
+holds Rule.Long xs = every is_short xs
+holds Rule.Refused xs = every (λ x. is_accepted_of x.answer) xs
+holds Rule.Book xs = every (λ x. is_book_of x.answer) xs
+holds Rule.Time xs = steps_back (times_of xs) ≤? 1
 
 -- ---- at which line it fails
 
 -- The last of these times, which follow on s.
-unfoldable pub lastAfter : ℕ → List ℕ → ℕ
-lastAfter s [] = s
-lastAfter s (t ∷ ts) = lastAfter t ts
+unfoldable pub last_after : ℕ → List ℕ → ℕ
+last_after s [] = s
+last_after s (t ∷ ts) = last_after t ts
 
 -- The last time so far; where there is none 0, and no time is before that.
-unfoldable pub lastTime : List Line-read → ℕ
-lastTime xs = lastAfter 0 (timesOf xs)
+unfoldable pub last_time : List Line-read → ℕ
+last_time xs = last_after 0 (times_of xs)
 
 -- The fix of a line, if it has one, is before the time s.
-unfoldable pub goesBack : ℕ → MaybeFix → Bool
-goesBack s MaybeFix.Missing = false
-goesBack s (MaybeFix.Fix b) = earlier (secondsOf b.timestamp) s
+unfoldable pub goes_back_of : ℕ → MaybeFix → Bool
+goes_back_of s MaybeFix.Missing = false
+goes_back_of s (MaybeFix.Fix b) = earlier (seconds_of_lem b.timestamp) s
 
 -- A line of a letter where one of it, or a B line, stands before.
-unfoldable pub isAgain : ℕ → List Line-read → Line-read → Bool
-isAgain letter before x = is_line letter x ∧? (some (is_line letter) before ∨? some (is_line (code "B")) before)
+unfoldable pub is_again_of : ℕ → List Line-read → Line-read → Bool
+is_again_of letter before x = is_line letter x ∧? (some (is_line letter) before ∨? some (is_line (code "B")) before)
 
 -- The line x breaks the rule, behind the lines before it: line 1 that is no A line; the second I line, or one behind a
 -- B line, and so with J; a line over 76 bytes; one that is not accepted; one not by the book; the second time that goes
 -- back.
 unfoldable pub breaks : Rule → List Line-read → Line-read → Bool
 breaks Rule.First before x = is_none before ∧? not (is_line (code "A") x)
-breaks Rule.Table before x = isAgain (code "I") before x ∨? isAgain (code "J") before x
-breaks Rule.Long before x = not (isShort x)
-breaks Rule.Refused before x = not (isAccepted x.answer)
-breaks Rule.Book before x = not (isBook x.answer)
+breaks Rule.Table before x = is_again_of (code "I") before x ∨? is_again_of (code "J") before x
+breaks Rule.Long before x = not (is_short x)
+breaks Rule.Refused before x = not (is_accepted_of x.answer)
+breaks Rule.Book before x = not (is_book_of x.answer)
 breaks Rule.Time before x =
-    (1 ≤? stepsBack (timesOf before)) ∧? goesBack (lastTime before) (answerFix x.answer)
+    (1 ≤? steps_back (times_of before)) ∧? goes_back_of (last_time before) (answer_fix x.answer)

@@ -1,7 +1,7 @@
 -- The walk that decides a claim line by line.
 use Rattle.text.specs.Prelude.{ℕ, ◌+◌, Bool, true, false, not, List, length, pick, ◌≤?◌, ◌=?◌, ◌∧?◌, ◌∨?◌, largest}
-use Rattle.log.specs.Log.{readings}
-use Rattle.log.specs.Fold.{over}
+use Rattle.igc_log.specs.Log.{readings}
+use Rattle.igc_log.specs.Fold.{over}
 use Rattle.report.specs.Figures.{earlier}
 use Rattle.walk.specs.Readings.{Line-read, reader}
 use Rattle.claim_line.specs.Asked.{asked_of}
@@ -28,48 +28,48 @@ fresh = record {
 -- ---- one line more
 
 -- A line of a letter where one of it, or a B line, was seen.
-unfoldable pub seenAgain : Bool → Bool → Bool → Bool
-seenAgain here one b = here ∧? (one ∨? b)
+unfoldable pub seen_again : Bool → Bool → Bool → Bool
+seen_again here one b = here ∧? (one ∨? b)
 
 -- An I or a J line that stands where none may.
-unfoldable pub outOfPlace : Sofar → Asked → Bool
-outOfPlace c line = seenAgain line.i c.i c.b ∨? seenAgain line.j c.j c.b
+unfoldable pub out_of_place : Sofar → Asked → Bool
+out_of_place c line = seen_again line.i c.i c.b ∨? seen_again line.j c.j c.b
 
 -- The first line, and no A line.
-unfoldable pub noStart : Sofar → Asked → Bool
-noStart c line = (c.lines =? 0) ∧? not line.a
+unfoldable pub no_start : Sofar → Asked → Bool
+no_start c line = (c.lines =? 0) ∧? not line.a
 
 -- The second of a line's fix, if it has one, is before the time s.
-unfoldable pub comesBefore : ℕ → MaybeSecond → Bool
-comesBefore s MaybeSecond.Missing = false
-comesBefore s (MaybeSecond.Second t) = earlier t s
+unfoldable pub comes_before : ℕ → MaybeSecond → Bool
+comes_before s MaybeSecond.Missing = false
+comes_before s (MaybeSecond.Second t) = earlier t s
 
 -- The second time that goes back.
-unfoldable pub secondBack : Sofar → Asked → Bool
-secondBack c line = c.back ∧? comesBefore c.last line.second
+unfoldable pub second_back : Sofar → Asked → Bool
+second_back c line = c.back ∧? comes_before c.last line.second
 
 -- The first rule, in the order of the request, that a line breaks which follows on those that passed.
-unfoldable pub lineVerdict : Sofar → Asked → Verdict
-lineVerdict c line =
-    pick (noStart c line) (Verdict.No (c.lines + 1) Rule.First)
-    (pick (outOfPlace c line) (Verdict.No (c.lines + 1) Rule.Table)
+unfoldable pub line_verdict_of : Sofar → Asked → Verdict
+line_verdict_of c line =
+    pick (no_start c line) (Verdict.No (c.lines + 1) Rule.First)
+    (pick (out_of_place c line) (Verdict.No (c.lines + 1) Rule.Table)
     (pick (not line.short) (Verdict.No (c.lines + 1) Rule.Long)
     (pick (not line.accepted) (Verdict.No (c.lines + 1) Rule.Refused)
     (pick (not line.book) (Verdict.No (c.lines + 1) Rule.Book)
-    (pick (secondBack c line) (Verdict.No (c.lines + 1) Rule.Time)
+    (pick (second_back c line) (Verdict.No (c.lines + 1) Rule.Time)
     Verdict.Yes)))))
 
 -- The last time, with that of a fix, if a line has one.
-unfoldable pub lastWith : ℕ → MaybeSecond → ℕ
-lastWith s MaybeSecond.Missing = s
-lastWith s (MaybeSecond.Second t) = t
+unfoldable pub last_with_of : ℕ → MaybeSecond → ℕ
+last_with_of s MaybeSecond.Missing = s
+last_with_of s (MaybeSecond.Second t) = t
 
 -- One line more has passed.
 unfoldable pub passed : Sofar → Asked → Sofar
 passed c line = record {
   lines = c.lines + 1;
-  last = lastWith c.last line.second;
-  back = c.back ∨? comesBefore c.last line.second;
+  last = last_with_of c.last line.second;
+  back = c.back ∨? comes_before c.last line.second;
   i = c.i ∨? line.i;
   j = c.j ∨? line.j;
   b = c.b ∨? line.b;
@@ -90,20 +90,20 @@ failed c v = record {
 
 -- After a line that follows on those that passed.
 unfoldable pub judged : Sofar → Asked → Sofar
-judged c line = pick (is_yes (lineVerdict c line)) (passed c line) (failed c (lineVerdict c line))
+judged c line = pick (is_yes (line_verdict_of c line)) (passed c line) (failed c (line_verdict_of c line))
 
 -- After one reading more: a no stays.
-unfoldable pub claimStep : Sofar → Line-read → Sofar
-claimStep c x = pick (is_yes c.verdict) (judged c (asked_of x.line x.answer)) c
+unfoldable pub claim_step : Sofar → Line-read → Sofar
+claim_step c x = pick (is_yes c.verdict) (judged c (asked_of x.line x.answer)) c
 
 -- ---- a log
 
 -- After some bytes more, which are whole lines or the last of a log; where a line's number could pass 64 bits, nothing
 -- is taken.
-unfoldable pub claimOn : Sofar → List ℕ → Sofar
-claimOn c s = pick (c.lines + length s ≤? largest) (over claimStep c (readings reader s)) c
+unfoldable pub claim_on_of : Sofar → List ℕ → Sofar
+claim_on_of c s = pick (c.lines + length s ≤? largest) (over claim_step c (readings reader s)) c
 
 -- The verdict, where these were all lines: without any, the first fails.
-unfoldable pub verdictAtEnd : Sofar → Verdict
-verdictAtEnd c =
+unfoldable pub verdict_at_end : Sofar → Verdict
+verdict_at_end c =
     pick (is_yes c.verdict) (pick (c.lines =? 0) (Verdict.No 1 Rule.First) Verdict.Yes) c.verdict

@@ -4,19 +4,19 @@ pub mod verdict;
 ghost use Rattle.std.specs.Prelude.{◌≡◌, ◌+◌, ◌≤◌, ◌<◌, true, length};
 ghost use Rattle.text.specs.Prelude.{◌∨?◌};
 ghost use Rattle.text.specs.Word.{largest};
-ghost use Rattle.log.specs.Log.{readings};
-ghost use Rattle.log.specs.Fold.{over};
+ghost use Rattle.igc_log.specs.Log.{readings};
+ghost use Rattle.igc_log.specs.Fold.{over};
 ghost use Rattle.walk.specs.Readings.{reader};
 ghost use Rattle.claim.specs.Claim.{claim_of};
-ghost use Rattle.claim.specs.Step.{fresh, comesBefore, seenAgain, outOfPlace, lineVerdict, lastWith, passed};
-ghost use Rattle.claim.specs.Step.{noStart, secondBack, judged, claimStep, claimOn, verdictAtEnd};
+ghost use Rattle.claim.specs.Step.{fresh, comes_before, seen_again, out_of_place, line_verdict_of, last_with_of, passed};
+ghost use Rattle.claim.specs.Step.{no_start, second_back, judged, claim_step, claim_on_of, verdict_at_end};
 
 use crate::verdict::{Rule, Verdict};
 use claim_line::{Asked, MaybeSecond, ask_at};
 
 // What goes from line to line: how many passed, the last time, whether one went back, whether an I, a J or a B line was
 // seen; and the verdict so far, which is yes until a line fails.
-#[derive(Drop)]
+#[derive(Clone, Copy)]
 pub struct Sofar {
     pub verdict: Verdict,
     pub lines: u64,
@@ -44,7 +44,7 @@ fn either(one: bool, other: bool) -> bool
 
 // The second of a fix is before the last one; an equal one is not.
 fn goes_back(last: u32, second: MaybeSecond) -> bool
-    ensures { result ≡ comesBefore last second }
+    ensures { result ≡ comes_before last second }
 {
     match second {
         MaybeSecond::Second(time) => time < last,
@@ -54,7 +54,7 @@ fn goes_back(last: u32, second: MaybeSecond) -> bool
 
 // The last time, after this line.
 fn last_with(last: u32, second: MaybeSecond) -> u32
-    ensures { result ≡ lastWith last second }
+    ensures { result ≡ last_with_of last second }
 {
     match second {
         MaybeSecond::Second(time) => time,
@@ -64,7 +64,7 @@ fn last_with(last: u32, second: MaybeSecond) -> u32
 
 // A line of a letter where one of it, or a B line, was seen.
 fn is_again(here: bool, one: bool, b: bool) -> bool
-    ensures { result ≡ seenAgain here one b }
+    ensures { result ≡ seen_again here one b }
 {
     if here {
         return either(one, b);
@@ -90,7 +90,7 @@ impl Sofar {
 
     // An I or a J line that stands where none may.
     fn is_out_of_place(self, line: Asked) -> bool
-        ensures { result ≡ outOfPlace self line }
+        ensures { result ≡ out_of_place self line }
     {
         if is_again(line.i, self.i, self.b) {
             return true;
@@ -100,7 +100,7 @@ impl Sofar {
 
     // The first line, and no A line.
     fn is_no_start(self, line: Asked) -> bool
-        ensures { result ≡ noStart self line }
+        ensures { result ≡ no_start self line }
     {
         if self.lines != 0 {
             return false;
@@ -110,7 +110,7 @@ impl Sofar {
 
     // The second time that goes back.
     fn is_second_back(self, line: Asked) -> bool
-        ensures { result ≡ secondBack self line }
+        ensures { result ≡ second_back self line }
     {
         let second = line.second;
         if self.back {
@@ -122,7 +122,7 @@ impl Sofar {
     // The first rule that a line breaks which follows on those that passed.
     fn line_verdict(self, line: Asked) -> Verdict
         requires { self.lines < largest }
-        ensures { result ≡ lineVerdict self line }
+        ensures { result ≡ line_verdict_of self line }
     {
         let number = self.lines + 1;
         if self.is_no_start(line) {
@@ -189,7 +189,7 @@ impl Sofar {
 
     // The verdict, where these were all lines: without any, the first fails.
     pub fn at_end(self) -> Verdict
-        ensures { result ≡ verdictAtEnd self }
+        ensures { result ≡ verdict_at_end self }
     {
         let verdict = self.verdict;
         if !verdict.is_yes() {
@@ -205,7 +205,7 @@ impl Sofar {
 // A line at a time, up to the first that fails.
 fn claim_from(before: Sofar, piece: &[u8]) -> Sofar
     requires { before.lines + length piece.now ≤ largest }
-    ensures { result ≡ over claimStep before (readings reader piece.now) }
+    ensures { result ≡ over claim_step before (readings reader piece.now) }
 {
     let mut sofar = before;
     let mut at = 0;
@@ -224,7 +224,7 @@ fn claim_from(before: Sofar, piece: &[u8]) -> Sofar
 
 // After a piece more of whole lines, or the last of a log. Where a line's number could pass 64 bits, nothing is taken.
 pub fn claim_on(before: Sofar, piece: &[u8]) -> Sofar
-    ensures { result ≡ claimOn before piece.now }
+    ensures { result ≡ claim_on_of before piece.now }
 {
     if 0xffff_ffff_ffff_ffff - before.lines < piece.len() as u64 {
         return before;

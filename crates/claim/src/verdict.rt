@@ -4,7 +4,7 @@ ghost use Rattle.claim.specs.Step.{is_yes};
 
 // What is asked of a log, in the order of the request: the first line begins with A; at most one I and one J line,
 // before any B; no line over 76 bytes; every line accepted; and by the book; B times going back once at most.
-#[derive(Drop)]
+#[derive(Clone, Copy)]
 pub enum Rule {
     First,
     Table,
@@ -15,7 +15,7 @@ pub enum Rule {
 }
 
 // All rules hold; or the first line at which one fails, counted from 1, and the first rule that fails there.
-#[derive(Drop)]
+#[derive(Clone, Copy)]
 pub enum Verdict {
     Yes,
     No { line: u64, rule: Rule },

@@ -1,21 +1,21 @@
 // What a record claim asks of one line of a log.
 ghost use Rattle.std.specs.Prelude.{◌≡◌};
-ghost use Rattle.records.specs.Record.{readingRes, answerFix};
-ghost use Rattle.claim_line.specs.Asked.{isAccepted, isBook, secondIn, asked_of, askedAt};
+ghost use Rattle.records.specs.Record.{reading_res, answer_fix};
+ghost use Rattle.claim_line.specs.Asked.{is_accepted_of, is_book_of, second_in_of, asked_of, asked_at_of};
 
 use records::{MaybeFix, Reading};
 use text::line::begins;
 use walk::turn::read_at;
 
 // The second of the day of a line's fix, if it has one.
-#[derive(Drop)]
+#[derive(Clone, Copy)]
 pub enum MaybeSecond {
     Second(u32),
     Missing,
 }
 
 // Whether it begins with A, with I, with J, with B; has at most 76 bytes; is accepted; by the book; and its second.
-#[derive(Drop)]
+#[derive(Clone, Copy)]
 pub struct Asked {
     pub a: bool,
     pub i: bool,
@@ -28,7 +28,7 @@ pub struct Asked {
 }
 
 // The same of the line at a place, and the place after it.
-#[derive(Drop)]
+#[derive(Clone, Copy)]
 pub struct AskedAt {
     pub asked: Asked,
     pub next: usize,
@@ -36,7 +36,7 @@ pub struct AskedAt {
 
 // 12 is not accepted here.
 fn is_accepted(reading: Reading) -> bool
-    ensures { result ≡ isAccepted (readingRes reading) }
+    ensures { result ≡ is_accepted_of (reading_res reading) }
 {
     match reading {
         Reading::Accepted(record) => record.number() == 0,
@@ -46,7 +46,7 @@ fn is_accepted(reading: Reading) -> bool
 
 // What was accepted is by the book.
 fn is_book(reading: Reading) -> bool
-    ensures { result ≡ isBook (readingRes reading) }
+    ensures { result ≡ is_book_of (reading_res reading) }
 {
     match reading {
         Reading::Accepted(record) => record.by_the_book(),
@@ -55,7 +55,7 @@ fn is_book(reading: Reading) -> bool
 }
 
 fn second_in(reading: Reading) -> MaybeSecond
-    ensures { result ≡ secondIn (answerFix (readingRes reading)) }
+    ensures { result ≡ second_in_of (answer_fix (reading_res reading)) }
 {
     match reading.fix() {
         MaybeFix::Fix(fix) => {
@@ -67,7 +67,7 @@ fn second_in(reading: Reading) -> MaybeSecond
 }
 
 fn ask(line: &[u8], reading: Reading) -> Asked
-    ensures { result ≡ asked_of line.now (readingRes reading) }
+    ensures { result ≡ asked_of line.now (reading_res reading) }
 {
     let a = begins(b'A', line);
     let i = begins(b'I', line);
@@ -91,7 +91,7 @@ fn ask(line: &[u8], reading: Reading) -> Asked
 
 // What is asked of the line that begins at a place; past the log's end it is an empty one.
 pub fn ask_at(log: &[u8], at: usize) -> AskedAt
-    ensures { result ≡ askedAt at log.now }
+    ensures { result ≡ asked_at_of at log.now }
 {
     let got = read_at(log, at);
     let part = got.line;

@@ -4,19 +4,19 @@ use Rattle.text.specs.Spelt.{spelt}
 use Rattle.claim.specs.declared.{verdict.Rule.Rule, verdict.Verdict.Verdict}
 
 -- The word of a rule.
-unfoldable pub ruleText : Rule → List ℕ
-ruleText Rule.First = spelt "first"
-ruleText Rule.Table = spelt "table"
-ruleText Rule.Long = spelt "long"
-ruleText Rule.Refused = spelt "refused"
-ruleText Rule.Book = spelt "book"
-ruleText Rule.Time = spelt "time"
+unfoldable pub rule_text : Rule → List ℕ
+rule_text Rule.First = spelt "first"
+rule_text Rule.Table = spelt "table"
+rule_text Rule.Long = spelt "long"
+rule_text Rule.Refused = spelt "refused"
+rule_text Rule.Book = spelt "book"
+rule_text Rule.Time = spelt "time"
 
 -- A no: the line, and the word of the rule.
-unfoldable pub noText : ℕ → Rule → List ℕ
-noText line rule = spelt "no " ++ (padded 1 line ++ ((code " " ∷ []) ++ ruleText rule))
+unfoldable pub no_text : ℕ → Rule → List ℕ
+no_text line rule = spelt "no " ++ (padded 1 line ++ ((code " " ∷ []) ++ rule_text rule))
 
 -- The whole line.
-unfoldable pub verdictText : Verdict → List ℕ
-verdictText Verdict.Yes = spelt "yes" ++ (LF ∷ [])
-verdictText (Verdict.No line rule) = noText line rule ++ (LF ∷ [])
+unfoldable pub verdict_text : Verdict → List ℕ
+verdict_text Verdict.Yes = spelt "yes" ++ (LF ∷ [])
+verdict_text (Verdict.No line rule) = no_text line rule ++ (LF ∷ [])

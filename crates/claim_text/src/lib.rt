@@ -1,7 +1,7 @@
 // The verdict on a record claim as text.
 ghost use Rattle.std.specs.Prelude.{◌≡◌};
 ghost use Rattle.put.specs.Put.{Wrote};
-ghost use Rattle.claim_text.specs.Text.{ruleText, noText, verdictText};
+ghost use Rattle.claim_text.specs.Text.{rule_text, no_text, verdict_text};
 
 use claim::verdict::{Rule, Verdict};
 use print::number::put_nat;
@@ -9,7 +9,7 @@ use put::{put_byte, put_bytes};
 
 // The word of a rule.
 pub fn put_rule(buf: &mut [u8], at: usize, rule: Rule) -> usize
-    ensures { Wrote buf.old at (ruleText rule) buf.new result }
+    ensures { Wrote buf.old at (rule_text rule) buf.new result }
 {
     match rule {
         Rule::First => put_bytes(buf, at, b"first"),
@@ -23,7 +23,7 @@ pub fn put_rule(buf: &mut [u8], at: usize, rule: Rule) -> usize
 
 // The line of a no, without its end.
 fn put_no(buf: &mut [u8], at: usize, line: u64, rule: Rule) -> usize
-    ensures { Wrote buf.old at (noText line rule) buf.new result }
+    ensures { Wrote buf.old at (no_text line rule) buf.new result }
 {
     let at_line = put_bytes(buf, at, b"no ");
     let at_space = put_nat(buf, at_line, line, 1);
@@ -33,7 +33,7 @@ fn put_no(buf: &mut [u8], at: usize, line: u64, rule: Rule) -> usize
 
 // The line of a verdict.
 pub fn put_verdict(buf: &mut [u8], at: usize, verdict: Verdict) -> usize
-    ensures { Wrote buf.old at (verdictText verdict) buf.new result }
+    ensures { Wrote buf.old at (verdict_text verdict) buf.new result }
 {
     match verdict {
         Verdict::Yes => put_bytes(buf, at, b"yes\n"),

@@ -2,146 +2,146 @@
 use Rattle.text.specs.Prelude.{ℕ, zero, suc, ◌+◌, ◌-◌, ◌≤◌, ◌≡◌, Bool, true, false, not, List, [], ◌∷◌, ◌++◌, length}
 use Rattle.text.specs.Prelude.{take, pick, ◌=?◌, LF}
 use Rattle.text.proofs.Prelude.{arith, refl, sym, ◌∙◌, append_assoc, take_all, first, second, no≤, is≤}
-use Rattle.text.proofs.Prelude.{is=, by-test, never}
-use Rattle.log.specs.Line.{up_to, hasLf}
-use Rattle.log.specs.Log.{chunks, closed, readFrom, readings}
-use Rattle.log.specs.Fold.{over}
-use Rattle.window.specs.Piece.{grow, wholeLength, pieceEnd}
-use Rattle.window.proofs.Wholes.{whole_le, whole-closed}
+use Rattle.text.proofs.Prelude.{is=, by_test, never}
+use Rattle.igc_log.specs.Line.{up_to, has_lf_of}
+use Rattle.igc_log.specs.Log.{chunks, closed, read_from, readings}
+use Rattle.igc_log.specs.Fold.{over}
+use Rattle.window.specs.Piece.{grow, whole_length_of, piece_end_of}
+use Rattle.window.proofs.Wholes.{whole_le, whole_closed}
 use Rattle.files.specs.declared.{input.Filled.Filled, outcome.Outcome.Outcome}
 use Rattle.walk.specs.Readings.{reader}
-use Rattle.claim.specs.Step.{fresh, claimStep, claimOn}
+use Rattle.claim.specs.Step.{fresh, claim_step, claim_on_of}
 use Rattle.claim.specs.declared.Sofar.{Sofar}
 use Rattle.claim.proofs.Deciding.{decides}
-use Rattle.claim.proofs.Stepping.{no-stays-over}
-use Rattle.claim.proofs.Piecing.{on-taken, over-two}
-use Rattle.claim.proofs.Fronts.{long-front}
-use Rattle.claims.specs.Claims.{hasRoom, stopped, lastTurn, leaving, takeFront, fullTurn, turned, windowAfter}
+use Rattle.claim.proofs.Stepping.{no_stays_over}
+use Rattle.claim.proofs.Piecing.{on_taken, over_two}
+use Rattle.claim.proofs.Fronts.{long_front}
+use Rattle.claims.specs.Claims.{has_room_of, stopped, last_turn, leaving, take_front, full_turn, turned, window_after}
 use Rattle.claims.specs.Claims.{Going, Judged}
 use Rattle.claims.specs.declared.Turn.{Turn}
 
 -- ---- a turn
 
 -- where no read is to follow, the window is as it was
-pub unmoved : {more : Bool} (w : List ℕ) → more ≡ false → w ≡ windowAfter more w
-unfolding windowAfter
+pub unmoved : {more : Bool} (w : List ℕ) → more ≡ false → w ≡ window_after more w
+unfolding window_after
 unmoved w e = second _ e refl
 
 -- none follows the last piece
-pub last-is-last : (c : Sofar) (lines : List ℕ) → (lastTurn c lines).more ≡ false
-unfolding lastTurn stopped pick
-last-is-last c lines = by-test (hasRoom c lines) (λ e. rw e) (λ e. rw e)
+pub last_is_last : (c : Sofar) (lines : List ℕ) → (last_turn c lines).more ≡ false
+unfolding last_turn stopped pick
+last_is_last c lines = by_test (has_room_of c lines) (λ e. rw e) (λ e. rw e)
 
 -- what leaves a window is inside
-pub leaving-inside : (w : List ℕ) → leaving w ≤ length w
-unfolding leaving pieceEnd pick
-leaving-inside w = by-test (wholeLength w =? 0) (λ e. rw e (omega arith)) (λ e. rw e (whole_le w))
+pub leaving_inside : (w : List ℕ) → leaving w ≤ length w
+unfolding leaving piece_end_of pick
+leaving_inside w = by_test (whole_length_of w =? 0) (λ e. rw e (omega arith)) (λ e. rw e (whole_le w))
 
 -- what leaves a full window was taken, and the rest is kept
-pub front-taken : (c : Sofar) (w : List ℕ) (n : ℕ) {t : Sofar} {k : ℕ} → hasRoom c (take n w) ≡ true →
-    t ≡ claimOn c (take n w) → k ≡ length w - n →
-    ◌≡◌ {A = Turn} (record { sofar = t; fill = k; more = true; outcome = Outcome.Done }) (takeFront c w n)
-unfolding takeFront
-front-taken c w n h e f = first _ h (rw (e, f))
+pub front_taken : (c : Sofar) (w : List ℕ) (n : ℕ) {t : Sofar} {k : ℕ} → has_room_of c (take n w) ≡ true →
+    t ≡ claim_on_of c (take n w) → k ≡ length w - n →
+    ◌≡◌ {A = Turn} (record { sofar = t; fill = k; more = true; outcome = Outcome.Done }) (take_front c w n)
+unfolding take_front
+front_taken c w n h e f = first _ h (rw (e, f))
 
 -- ---- a window without an LF
 
-none-grown : (b n : ℕ) → grow b n ≡ 0 → ((b =? LF) ≡ false) × (n ≡ 0)
+none_grown : (b n : ℕ) → grow b n ≡ 0 → ((b =? LF) ≡ false) × (n ≡ 0)
 unfolding grow pick
-none-grown b zero h =
-    by-test (b =? LF) (λ e. let z : ◌≡◌ {A = ℕ} 1 0 = rw e at h in absurd (omega arith)) (λ e. (e, refl))
-none-grown b (suc n) h = absurd (omega arith)
+none_grown b zero h =
+    by_test (b =? LF) (λ e. let z : ◌≡◌ {A = ℕ} 1 0 = rw e at h in absurd (omega arith)) (λ e. (e, refl))
+none_grown b (suc n) h = absurd (omega arith)
 
-up-to-end : (s : List ℕ) → wholeLength s ≡ 0 → length s ≤ up_to s
-unfolding wholeLength up_to
-up-to-end [] h = omega arith
-up-to-end (b ∷ s) h =
-    let g = none-grown b (wholeLength s) h in
-    let l = up-to-end s g.1 in
+up_to_end : (s : List ℕ) → whole_length_of s ≡ 0 → length s ≤ up_to s
+unfolding whole_length_of up_to
+up_to_end [] h = omega arith
+up_to_end (b ∷ s) h =
+    let g = none_grown b (whole_length_of s) h in
+    let l = up_to_end s g.1 in
     let u : suc (up_to s) ≡ pick (b =? LF) 0 (suc (up_to s)) = second _ g.0 refl in
     omega (arith, u)
 
-no-lf : (w : List ℕ) → wholeLength w ≡ 0 → hasLf w ≡ false
-unfolding hasLf
-no-lf w h = no≤ (omega (arith, up-to-end w h))
+no_lf : (w : List ℕ) → whole_length_of w ≡ 0 → has_lf_of w ≡ false
+unfolding has_lf_of
+no_lf w h = no≤ (omega (arith, up_to_end w h))
 
 -- ---- from read to read
 
-nothing-follows : (c : Sofar) → over claimStep c (readings reader []) ≡ c
-unfolding readings chunks readFrom over
-nothing-follows c = refl
+nothing_follows : (c : Sofar) → over claim_step c (readings reader []) ≡ c
+unfolding readings chunks read_from over
+nothing_follows c = refl
 
 -- before the first read
-pub at-start : Going fresh
-at-start = record { bytes = []; made = λ rest. refl }
+pub at_start : Going fresh
+at_start = record { bytes = []; made = λ rest. refl }
 
 -- and where more is, as the code tests it
-pub goes-more : {A : Type 0} {more : Bool} → not more ≡ false → (more ≡ true → A) → A
-goes-more {more = true} h g = g refl
-goes-more {more = false} h g = never refl h
+pub goes_more : {A : Type 0} {more : Bool} → not more ≡ false → (more ≡ true → A) → A
+goes_more {more = true} h g = g refl
+goes_more {more = false} h g = never refl h
 
 module _ {c : Sofar} (g : Going c) where
   -- the last lines were taken
-  judged-last : (s : List ℕ) → Judged (over claimStep c (readings reader s))
-  judged-last s = record {
+  judged_last : (s : List ℕ) → Judged (over claim_step c (readings reader s))
+  judged_last s = record {
     bytes = g.bytes ++ s;
     verdict = rw (g.made s) (decides.decides (readings reader (g.bytes ++ s)));
   }
 
   -- none were
-  pub judged-now : Judged c
-  judged-now = rw (nothing-follows c) at (judged-last [])
+  pub judged_now : Judged c
+  judged_now = rw (nothing_follows c) at (judged_last [])
 
   -- some whole lines were
-  going-whole : (s : List ℕ) → closed s ≡ true → Going (over claimStep c (readings reader s))
-  going-whole s h = record {
+  going_whole : (s : List ℕ) → closed s ≡ true → Going (over claim_step c (readings reader s))
+  going_whole s h = record {
     bytes = g.bytes ++ s;
-    made = λ rest. over-two c s rest h ∙ g.made (s ++ rest) ∙ rw (append_assoc g.bytes s rest);
+    made = λ rest. over_two c s rest h ∙ g.made (s ++ rest) ∙ rw (append_assoc g.bytes s rest);
   }
 
   -- the front of a line that is too long was
-  going-front : (s : List ℕ) → hasLf s ≡ false → 78 ≤ length s → Going (over claimStep c (readings reader s))
-  going-front s n h = record {
+  going_front : (s : List ℕ) → has_lf_of s ≡ false → 78 ≤ length s → Going (over claim_step c (readings reader s))
+  going_front s n h = record {
     bytes = g.bytes ++ s;
     made = λ rest.
-        no-stays-over (over claimStep c (readings reader s)) (readings reader rest) (long-front.fails c s n h)
-        ∙ sym (long-front.stays c s rest n h) ∙ g.made (s ++ rest) ∙ rw (append_assoc g.bytes s rest);
+        no_stays_over (over claim_step c (readings reader s)) (readings reader rest) (long_front.fails c s n h)
+        ∙ sym (long_front.stays c s rest n h) ∙ g.made (s ++ rest) ∙ rw (append_assoc g.bytes s rest);
   }
 
   -- what leaves a full window was
-  going-left : (w : List ℕ) → 78 ≤ length w → Going (over claimStep c (readings reader (take (leaving w) w)))
-  unfolding leaving pieceEnd pick
-  going-left w h =
-      by-test (wholeLength w =? 0)
-      (λ e. rw (e, take_all (length w) w (omega arith)) (going-front w (no-lf w (is= e)) h))
-      (λ e. rw e (going-whole (take (wholeLength w) w) (whole-closed w)))
+  going_left : (w : List ℕ) → 78 ≤ length w → Going (over claim_step c (readings reader (take (leaving w) w)))
+  unfolding leaving piece_end_of pick
+  going_left w h =
+      by_test (whole_length_of w =? 0)
+      (λ e. rw (e, take_all (length w) w (omega arith)) (going_front w (no_lf w (is= e)) h))
+      (λ e. rw e (going_whole (take (whole_length_of w) w) (whole_closed w)))
 
   -- a turn was made
   abbrev Gone : Turn → Type 0
   Gone t = Judged t.sofar × (t.more ≡ true → Going t.sofar)
 
-  gone-stopped : (o : Outcome) → Gone (stopped c o)
+  gone_stopped : (o : Outcome) → Gone (stopped c o)
   unfolding stopped
-  gone-stopped o = (judged-now, λ h. never h refl)
+  gone_stopped o = (judged_now, λ h. never h refl)
 
-  gone-last : (lines : List ℕ) → Gone (lastTurn c lines)
-  unfolding lastTurn stopped pick hasRoom
-  gone-last lines =
-      by-test (hasRoom c lines)
-      (λ e. rw (e, on-taken c lines (is≤ e)) (judged-last lines, λ h. never h refl))
-      (λ e. rw e (gone-stopped Outcome.NotRead))
+  gone_last : (lines : List ℕ) → Gone (last_turn c lines)
+  unfolding last_turn stopped pick has_room_of
+  gone_last lines =
+      by_test (has_room_of c lines)
+      (λ e. rw (e, on_taken c lines (is≤ e)) (judged_last lines, λ h. never h refl))
+      (λ e. rw e (gone_stopped Outcome.NotRead))
 
-  gone-full : (w : List ℕ) → 78 ≤ length w → Gone (fullTurn c w)
-  unfolding fullTurn takeFront pick hasRoom
-  gone-full w h =
+  gone_full : (w : List ℕ) → 78 ≤ length w → Gone (full_turn c w)
+  unfolding full_turn take_front pick has_room_of
+  gone_full w h =
       let s = take (leaving w) w in
-      by-test (hasRoom c s)
-      (λ e. rw (e, on-taken c s (is≤ e)) (judged-last s, λ m. going-left w h))
-      (λ e. rw e (gone-stopped Outcome.NotRead))
+      by_test (has_room_of c s)
+      (λ e. rw (e, on_taken c s (is≤ e)) (judged_last s, λ m. going_left w h))
+      (λ e. rw e (gone_stopped Outcome.NotRead))
 
   -- however far the window was filled
-  pub goes-turned : (f : Filled) (w : List ℕ) → 78 ≤ length w → Gone (turned f c w)
+  pub goes_turned : (f : Filled) (w : List ℕ) → 78 ≤ length w → Gone (turned f c w)
   unfolding turned
-  goes-turned (Filled.Ended n) w h = gone-last (take n w)
-  goes-turned Filled.Full w h = gone-full w h
-  goes-turned Filled.Failed w h = gone-stopped Outcome.NotRead
+  goes_turned (Filled.Ended n) w h = gone_last (take n w)
+  goes_turned Filled.Full w h = gone_full w h
+  goes_turned Filled.Failed w h = gone_stopped Outcome.NotRead

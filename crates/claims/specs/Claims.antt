@@ -2,19 +2,19 @@
 use Rattle.text.specs.Prelude.{ℕ, ◌+◌, ◌-◌, ◌≡◌, Bool, true, false, List, ◌++◌, length, take, drop, pick, ◌≤?◌, ◌=?◌}
 use Rattle.text.specs.Prelude.{largest}
 use Rattle.std.proofs.lemmas.List.Edits.{sets}
-use Rattle.log.specs.Log.{readings}
-use Rattle.log.specs.Fold.{over}
-use Rattle.window.specs.Piece.{pieceEnd}
+use Rattle.igc_log.specs.Log.{readings}
+use Rattle.igc_log.specs.Fold.{over}
+use Rattle.window.specs.Piece.{piece_end_of}
 use Rattle.files.specs.declared.{input.Filled.Filled, outcome.Outcome.Outcome}
 use Rattle.walk.specs.Readings.{reader}
 use Rattle.claim.specs.Claim.{claim_of}
-use Rattle.claim.specs.Step.{fresh, claimStep, claimOn, verdictAtEnd}
+use Rattle.claim.specs.Step.{fresh, claim_step, claim_on_of, verdict_at_end}
 use Rattle.claim.specs.declared.Sofar.{Sofar}
 use Rattle.claims.specs.declared.Turn.{Turn}
 
 -- The number of each of these lines stands in 64 bits: there are no more of them than bytes.
-unfoldable pub hasRoom : Sofar → List ℕ → Bool
-hasRoom c lines = c.lines + length lines ≤? largest
+unfoldable pub has_room_of : Sofar → List ℕ → Bool
+has_room_of c lines = c.lines + length lines ≤? largest
 
 -- ---- a turn
 
@@ -23,34 +23,34 @@ unfoldable pub stopped : Sofar → Outcome → Turn
 stopped c o = record { sofar = c; fill = 0; more = false; outcome = o }
 
 -- After the last read all lines are taken; where they can't be, it was not read to its end.
-unfoldable pub lastTurn : Sofar → List ℕ → Turn
-lastTurn c lines = pick (hasRoom c lines) (stopped (claimOn c lines) Outcome.Done) (stopped c Outcome.NotRead)
+unfoldable pub last_turn : Sofar → List ℕ → Turn
+last_turn c lines = pick (has_room_of c lines) (stopped (claim_on_of c lines) Outcome.Done) (stopped c Outcome.NotRead)
 
 -- How many bytes of a full window w are taken: its whole lines. Where it has none it is the front of a line that is too
 -- long whatever follows, and all of it is taken.
 unfoldable pub leaving : List ℕ → ℕ
-leaving w = pick (pieceEnd false w =? 0) (length w) (pieceEnd false w)
+leaving w = pick (piece_end_of false w =? 0) (length w) (piece_end_of false w)
 
 -- The first n bytes of a full window w are taken, and what is behind them waits.
-unfoldable pub takeFront : Sofar → List ℕ → ℕ → Turn
-takeFront c w n =
-    pick (hasRoom c (take n w))
-    (record { sofar = claimOn c (take n w); fill = length w - n; more = true; outcome = Outcome.Done })
+unfoldable pub take_front : Sofar → List ℕ → ℕ → Turn
+take_front c w n =
+    pick (has_room_of c (take n w))
+    (record { sofar = claim_on_of c (take n w); fill = length w - n; more = true; outcome = Outcome.Done })
     (stopped c Outcome.NotRead)
 
 -- A full window.
-unfoldable pub fullTurn : Sofar → List ℕ → Turn
-fullTurn c w = takeFront c w (leaving w)
+unfoldable pub full_turn : Sofar → List ℕ → Turn
+full_turn c w = take_front c w (leaving w)
 
 -- By how far the window w was filled; of one that was not read nothing is taken.
 unfoldable pub turned : Filled → Sofar → List ℕ → Turn
-turned (Filled.Ended n) c w = lastTurn c (take n w)
-turned Filled.Full c w = fullTurn c w
+turned (Filled.Ended n) c w = last_turn c (take n w)
+turned Filled.Full c w = full_turn c w
 turned Filled.Failed c w = stopped c Outcome.NotRead
 
 -- Where a read is to follow, what was not taken stands in front; else the window is as it was.
-unfoldable pub windowAfter : Bool → List ℕ → List ℕ
-windowAfter more w = pick more (sets w 0 (drop (leaving w) w)) w
+unfoldable pub window_after : Bool → List ℕ → List ℕ
+window_after more w = pick more (sets w 0 (drop (leaving w) w)) w
 
 -- ---- from read to read
 
@@ -58,9 +58,9 @@ windowAfter more w = pick more (sets w 0 (drop (leaving w) w)) w
 pub record Going (c : Sofar) : Type 0 where
   pub bytes : List ℕ
   pub made : (rest : List ℕ) →
-      over claimStep c (readings reader rest) ≡ over claimStep fresh (readings reader (bytes ++ rest))
+      over claim_step c (readings reader rest) ≡ over claim_step fresh (readings reader (bytes ++ rest))
 
 -- What c comes to is the verdict on some bytes, by its definition over the readings of a walk.
 pub record Judged (c : Sofar) : Type 0 where
   pub bytes : List ℕ
-  pub verdict : verdictAtEnd c ≡ claim_of (readings reader bytes)
+  pub verdict : verdict_at_end c ≡ claim_of (readings reader bytes)

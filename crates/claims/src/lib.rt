@@ -4,7 +4,7 @@
 
 ghost use Rattle.std.specs.Prelude.{◌≡◌, ◌≤◌, length};
 ghost use Rattle.files.specs.Input.{Within};
-ghost use Rattle.claims.specs.Claims.{hasRoom, stopped, leaving, lastTurn, fullTurn, turned, windowAfter, Judged};
+ghost use Rattle.claims.specs.Claims.{has_room_of, stopped, leaving, last_turn, full_turn, turned, window_after, Judged};
 
 use claim::verdict::Verdict;
 use claim::{Sofar, claim_on};
@@ -17,7 +17,7 @@ use window::{keep_rest, piece_end};
 
 // What goes from read to read: what the lines so far come to, how many bytes wait at the window's front, and whether a
 // read is to follow.
-#[derive(Drop)]
+#[derive(Clone, Copy)]
 struct Turn {
     sofar: Sofar,
     fill: usize,
@@ -26,7 +26,7 @@ struct Turn {
 }
 
 // What the lines that were taken come to, and how it ended.
-#[derive(Drop)]
+#[derive(Clone, Copy)]
 struct FileClaim {
     sofar: Sofar,
     outcome: Outcome,
@@ -34,7 +34,7 @@ struct FileClaim {
 
 // The number of each of these lines stands in 64 bits.
 fn has_room(sofar: Sofar, lines: &[u8]) -> bool
-    ensures { result ≡ hasRoom sofar lines.now }
+    ensures { result ≡ has_room_of sofar lines.now }
 {
     lines.len() as u64 <= 0xffff_ffff_ffff_ffff - sofar.lines
 }
@@ -63,7 +63,7 @@ fn leaving(win: &[u8]) -> usize
 
 // The last piece.
 fn finish(sofar: Sofar, lines: &[u8]) -> Turn
-    ensures { result ≡ lastTurn sofar lines.now }
+    ensures { result ≡ last_turn sofar lines.now }
 {
     if !has_room(sofar, lines) {
         return stop(sofar, Outcome::NotRead);
@@ -74,8 +74,8 @@ fn finish(sofar: Sofar, lines: &[u8]) -> Turn
 
 // A full window: what leaves it is taken, and the rest goes to its front.
 fn drain(sofar: Sofar, win: &mut [u8]) -> Turn
-    ensures value { result ≡ fullTurn sofar win.old }
-    ensures win_after { win.new ≡ windowAfter result.more win.old }
+    ensures value { result ≡ full_turn sofar win.old }
+    ensures win_after { win.new ≡ window_after result.more win.old }
 {
     let n = leaving(win);
     if !has_room(sofar, &win[0..n]) {
@@ -95,7 +95,7 @@ fn drain(sofar: Sofar, win: &mut [u8]) -> Turn
 fn one_turn(filled: Filled, sofar: Sofar, win: &mut [u8]) -> Turn
     requires { Within filled win.old }
     ensures value { result ≡ turned filled sofar win.old }
-    ensures win_after { win.new ≡ windowAfter result.more win.old }
+    ensures win_after { win.new ≡ window_after result.more win.old }
 {
     match filled {
         Filled::Ended(n) => finish(sofar, &win[0..n]),

@@ -5,28 +5,28 @@ ghost use Rattle.std.specs.Prelude.{◌≡◌};
 ghost use Rattle.text.specs.Res.{ok};
 ghost use Rattle.put.specs.Put.{Wrote};
 ghost use Rattle.print.specs.Print.{Prints};
-ghost use Rattle.coord.specs.Coord.{readLatitude, readLongitude, latitudeIn, longitudeIn, latitudeBy};
-ghost use Rattle.coord.specs.Coord.{longitudeBy, newLatitude, newLongitude, latitudeText, longitudeText};
-ghost use Rattle.coord.specs.Coord.{latitudeBook, longitudeBook, latitudeRes, longitudeRes};
+ghost use Rattle.coord.specs.Coord.{read_latitude, read_longitude, latitude_in, longitude_in, latitude_by};
+ghost use Rattle.coord.specs.Coord.{longitude_by, new_latitude, new_longitude, latitude_text, longitude_text};
+ghost use Rattle.coord.specs.Coord.{latitude_book, longitude_book, latitude_res, longitude_res};
 
 use field::is_ascii;
 use print::printed::Printed;
 use raw_coord::{Compass, CoordRead, RawCoord};
 use text::refusal::Refusal;
 
-#[derive(Drop)]
+#[derive(Clone, Copy)]
 pub struct RawLatitude(pub RawCoord);
 
-#[derive(Drop)]
+#[derive(Clone, Copy)]
 pub struct RawLongitude(pub RawCoord);
 
-#[derive(Drop)]
+#[derive(Clone, Copy)]
 pub enum LatitudeRead {
     Ok(RawLatitude),
     Refused(Refusal),
 }
 
-#[derive(Drop)]
+#[derive(Clone, Copy)]
 pub enum LongitudeRead {
     Ok(RawLongitude),
     Refused(Refusal),
@@ -35,7 +35,7 @@ pub enum LongitudeRead {
 impl RawLatitude {
     // A latitude of degrees to 90 and N or S.
     pub fn new(degrees: u8, thousandths: u16, sign: Compass) -> LatitudeRead
-        ensures { latitudeRes result ≡ newLatitude degrees thousandths sign }
+        ensures { latitude_res result ≡ new_latitude degrees thousandths sign }
     {
         match RawCoord::new(
             90,
@@ -52,7 +52,7 @@ impl RawLatitude {
 
     // Of its two numbers and its letter, as reading takes them.
     pub fn lettered(degrees: u8, thousandths: u16, letter: u8) -> LatitudeRead
-        ensures { latitudeRes result ≡ latitudeBy degrees thousandths letter }
+        ensures { latitude_res result ≡ latitude_by degrees thousandths letter }
     {
         match RawCoord::lettered(
             90,
@@ -69,7 +69,7 @@ impl RawLatitude {
 
     // Reads eight bytes that are known to be ASCII.
     pub fn parse_ascii(text: &[u8]) -> LatitudeRead
-        ensures { latitudeRes result ≡ latitudeIn text.now }
+        ensures { latitude_res result ≡ latitude_in text.now }
     {
         match RawCoord::parse_ascii(text, 2, 90, Compass::North, Compass::South) {
             CoordRead::Ok(coord) => LatitudeRead::Ok(RawLatitude(coord)),
@@ -79,7 +79,7 @@ impl RawLatitude {
 
     // Reads a latitude of eight bytes.
     pub fn parse(text: &[u8]) -> LatitudeRead
-        ensures { latitudeRes result ≡ readLatitude text.now }
+        ensures { latitude_res result ≡ read_latitude text.now }
     {
         if text.len() != 8 {
             return LatitudeRead::Refused(Refusal::WrongLength);
@@ -92,21 +92,21 @@ impl RawLatitude {
 
     // A latitude that the globe has: none past the pole.
     pub fn by_the_book(self) -> bool
-        ensures { result ≡ latitudeBook self }
+        ensures { result ≡ latitude_book self }
     {
         self.0.by_the_book(90)
     }
 
     // The text as a piece, from a place on.
     pub fn put(self, buf: &mut [u8], at: usize) -> usize
-        ensures { Wrote buf.old at (latitudeText self) buf.new result }
+        ensures { Wrote buf.old at (latitude_text self) buf.new result }
     {
         self.0.put(buf, at, 2)
     }
 
     // Prints it.
     pub fn print(self, buf: &mut [u8]) -> Printed
-        ensures { Prints (ok (latitudeText self)) buf.old buf.new result }
+        ensures { Prints (ok (latitude_text self)) buf.old buf.new result }
     {
         if buf.len() < self.put(&mut [], 0) {
             return Printed::Refused(Refusal::NoRoom);
@@ -118,7 +118,7 @@ impl RawLatitude {
 impl RawLongitude {
     // A longitude of degrees to 180 and E or W.
     pub fn new(degrees: u8, thousandths: u16, sign: Compass) -> LongitudeRead
-        ensures { longitudeRes result ≡ newLongitude degrees thousandths sign }
+        ensures { longitude_res result ≡ new_longitude degrees thousandths sign }
     {
         match RawCoord::new(
             180,
@@ -135,7 +135,7 @@ impl RawLongitude {
 
     // Of its two numbers and its letter, as reading takes them.
     pub fn lettered(degrees: u8, thousandths: u16, letter: u8) -> LongitudeRead
-        ensures { longitudeRes result ≡ longitudeBy degrees thousandths letter }
+        ensures { longitude_res result ≡ longitude_by degrees thousandths letter }
     {
         match RawCoord::lettered(
             180,
@@ -152,7 +152,7 @@ impl RawLongitude {
 
     // Reads nine bytes that are known to be ASCII.
     pub fn parse_ascii(text: &[u8]) -> LongitudeRead
-        ensures { longitudeRes result ≡ longitudeIn text.now }
+        ensures { longitude_res result ≡ longitude_in text.now }
     {
         match RawCoord::parse_ascii(text, 3, 180, Compass::East, Compass::West) {
             CoordRead::Ok(coord) => LongitudeRead::Ok(RawLongitude(coord)),
@@ -162,7 +162,7 @@ impl RawLongitude {
 
     // Reads a longitude of nine bytes.
     pub fn parse(text: &[u8]) -> LongitudeRead
-        ensures { longitudeRes result ≡ readLongitude text.now }
+        ensures { longitude_res result ≡ read_longitude text.now }
     {
         if text.len() != 9 {
             return LongitudeRead::Refused(Refusal::WrongLength);
@@ -175,21 +175,21 @@ impl RawLongitude {
 
     // A longitude that the globe has: none past 180 degrees.
     pub fn by_the_book(self) -> bool
-        ensures { result ≡ longitudeBook self }
+        ensures { result ≡ longitude_book self }
     {
         self.0.by_the_book(180)
     }
 
     // The text as a piece, from a place on.
     pub fn put(self, buf: &mut [u8], at: usize) -> usize
-        ensures { Wrote buf.old at (longitudeText self) buf.new result }
+        ensures { Wrote buf.old at (longitude_text self) buf.new result }
     {
         self.0.put(buf, at, 3)
     }
 
     // Prints it.
     pub fn print(self, buf: &mut [u8]) -> Printed
-        ensures { Prints (ok (longitudeText self)) buf.old buf.new result }
+        ensures { Prints (ok (longitude_text self)) buf.old buf.new result }
     {
         if buf.len() < self.put(&mut [], 0) {
             return Printed::Refused(Refusal::NoRoom);

@@ -1,7 +1,7 @@
 -- A place in a log and the number of lines read so far.
 use Rattle.text.specs.Prelude.{ℕ, ◌+◌, List, length, pick, ◌≤?◌, ◌∧?◌, largest}
-use Rattle.log.specs.Line.{cut_at}
-use Rattle.log.specs.declared.Cut.{Cut}
+use Rattle.igc_log.specs.Line.{cut_at}
+use Rattle.igc_log.specs.declared.Cut.{Cut}
 use Rattle.cursor.specs.declared.{Cursor.Cursor, Next.Next}
 use Rattle.cursor.specs.declared.Next.TheVariants.{Line, Done}
 

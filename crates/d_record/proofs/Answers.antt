@@ -2,13 +2,13 @@
 use Rattle.text.specs.Prelude.{◌≡◌}
 use Rattle.text.proofs.Prelude.{refl}
 use Rattle.text.proofs.Answers.{made}
-use Rattle.d_record.specs.DRecord.{qualifierRes, dRes}
+use Rattle.d_record.specs.DRecord.{qualifier_res, d_res}
 use Rattle.d_record.specs.declared.{QualifierRead.QualifierRead, DRead.DRead}
 
-pub qualifier-undone : (r : QualifierRead) → made QualifierRead.Ok QualifierRead.Refused (qualifierRes r) ≡ r
-qualifier-undone (QualifierRead.Ok v) = refl
-qualifier-undone (QualifierRead.Refused n) = refl
+pub qualifier_undone : (r : QualifierRead) → made QualifierRead.Ok QualifierRead.Refused (qualifier_res r) ≡ r
+qualifier_undone (QualifierRead.Ok v) = refl
+qualifier_undone (QualifierRead.Refused n) = refl
 
-pub d-undone : (r : DRead) → made DRead.Ok DRead.Refused (dRes r) ≡ r
-d-undone (DRead.Ok v) = refl
-d-undone (DRead.Refused n) = refl
+pub d_undone : (r : DRead) → made DRead.Ok DRead.Refused (d_res r) ≡ r
+d_undone (DRead.Ok v) = refl
+d_undone (DRead.Refused n) = refl

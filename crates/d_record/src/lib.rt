@@ -1,9 +1,9 @@
 // D lines, as src/records/d_record.rs has them.
 ghost use Rattle.std.specs.Prelude.{◌≡◌};
-ghost use Rattle.part.specs.Part.{findPart, shown, Shows};
+ghost use Rattle.part.specs.Part.{find_part, shown, Shows};
 ghost use Rattle.put.specs.Put.{Wrote};
 ghost use Rattle.print.specs.Print.{Prints};
-ghost use Rattle.d_record.specs.DRecord.{qualifierOf, qualifierLetter, readD, dPiece, dText, qualifierRes, dRes};
+ghost use Rattle.d_record.specs.DRecord.{qualifier_of, qualifier_letter, read_d, d_piece, d_text, qualifier_res, d_res};
 
 use field::is_ascii;
 use part::{Found, Part};
@@ -11,26 +11,26 @@ use print::printed::Printed;
 use put::{put_byte, put_part};
 use text::refusal::Refusal;
 
-#[derive(Drop)]
+#[derive(Clone, Copy)]
 pub enum GpsQualifier {
     Gps,
     DGps,
 }
 
 // Differential GPS: whether it is used, and its station.
-#[derive(Drop)]
+#[derive(Clone, Copy)]
 pub struct DRecord {
     pub station_id: Part,
     pub qualifier: GpsQualifier,
 }
 
-#[derive(Drop)]
+#[derive(Clone, Copy)]
 pub enum QualifierRead {
     Ok(GpsQualifier),
     Refused(Refusal),
 }
 
-#[derive(Drop)]
+#[derive(Clone, Copy)]
 pub enum DRead {
     Ok(DRecord),
     Refused(Refusal),
@@ -39,7 +39,7 @@ pub enum DRead {
 impl GpsQualifier {
     // The qualifier of a byte.
     pub fn from_letter(letter: u8) -> QualifierRead
-        ensures { qualifierRes result ≡ qualifierOf letter }
+        ensures { qualifier_res result ≡ qualifier_of letter }
     {
         match letter {
             b'1' => QualifierRead::Ok(GpsQualifier::Gps),
@@ -50,7 +50,7 @@ impl GpsQualifier {
 
     // The byte of a qualifier.
     pub fn letter(self) -> u8
-        ensures { result ≡ qualifierLetter self }
+        ensures { result ≡ qualifier_letter self }
     {
         match self {
             GpsQualifier::Gps => b'1',
@@ -62,7 +62,7 @@ impl GpsQualifier {
 impl DRecord {
     // Reads a D line, of exactly 6 bytes.
     pub fn parse(line: &[u8]) -> DRead
-        ensures { dRes result ≡ readD line.now }
+        ensures { d_res result ≡ read_d line.now }
     {
         if line.len() != 6 {
             return DRead::Refused(Refusal::Syntax);
@@ -84,7 +84,7 @@ impl DRecord {
 
     // The station, as a part of the caller's own line.
     pub fn station_id(self, line: &[u8]) -> &[u8]
-        ensures { Shows line.entry (shown (findPart self.station_id line.now)) result }
+        ensures { Shows line.entry (shown (find_part self.station_id line.now)) result }
     {
         let station = self.station_id;
         station.view(line)
@@ -93,7 +93,7 @@ impl DRecord {
     // The text as a piece of a larger one, from a place on: bytes that are too short cut it, and what lies outside the
     // line is left out. `print` is the printer.
     pub fn put_piece(self, buf: &mut [u8], at: usize, line: &[u8]) -> usize
-        ensures { Wrote buf.old at (dPiece self line.now) buf.new result }
+        ensures { Wrote buf.old at (d_piece self line.now) buf.new result }
     {
         let qualifier = self.qualifier;
         let station = self.station_id;
@@ -104,7 +104,7 @@ impl DRecord {
 
     // Prints the record beside its line.
     pub fn print(self, line: &[u8], buf: &mut [u8]) -> Printed
-        ensures { Prints (dText self line.now) buf.old buf.new result }
+        ensures { Prints (d_text self line.now) buf.old buf.new result }
     {
         let station = self.station_id;
         match station.find(line) {

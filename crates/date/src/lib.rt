@@ -3,7 +3,7 @@ ghost use Rattle.std.specs.Prelude.{◌≡◌};
 ghost use Rattle.text.specs.Res.{ok};
 ghost use Rattle.put.specs.Put.{Wrote};
 ghost use Rattle.print.specs.Print.{Prints};
-ghost use Rattle.date.specs.Date.{dateOf, readDate, dateIn, dated, newDate, dateText, dateBook, dateRes};
+ghost use Rattle.date.specs.Date.{date_of, read_date, date_in, dated, new_date, date_text, date_book, date_res};
 
 use calendar::days_in;
 use field::is_ascii;
@@ -12,14 +12,14 @@ use text::refusal::Refusal;
 use three::{ThreeRead, put_three, read_three};
 
 // A day of a year of which the last two digits are known.
-#[derive(Drop)]
+#[derive(Clone, Copy)]
 pub struct Date {
     pub day: u8,
     pub month: u8,
     pub year: u8,
 }
 
-#[derive(Drop)]
+#[derive(Clone, Copy)]
 pub enum DateRead {
     Ok(Date),
     Refused(Refusal),
@@ -28,7 +28,7 @@ pub enum DateRead {
 impl Date {
     // A day of 1 to 31 and a month of 1 to 12. Reading is more lenient: there a zero passes.
     pub fn from_dmy(day: u8, month: u8, year: u8) -> DateRead
-        ensures { dateRes result ≡ newDate day month year }
+        ensures { date_res result ≡ new_date day month year }
     {
         if Date::dated(day, month) {
             if year <= 99 {
@@ -56,7 +56,7 @@ impl Date {
 
     // A date in a text that the caller knows to be ASCII: the test is not made again.
     fn parse_ascii(text: &[u8]) -> DateRead
-        ensures { dateRes result ≡ dateIn text.now }
+        ensures { date_res result ≡ date_in text.now }
     {
         match read_three(text) {
             ThreeRead::Ok(t) => Date::within(t.0, t.1, t.2),
@@ -66,7 +66,7 @@ impl Date {
 
     // A day as reading takes it.
     fn within(day: u8, month: u8, year: u8) -> DateRead
-        ensures { dateRes result ≡ dateOf day month year }
+        ensures { date_res result ≡ date_of day month year }
     {
         if day <= 31 {
             if month <= 12 {
@@ -78,7 +78,7 @@ impl Date {
 
     // Reads a date of six bytes.
     pub fn parse(text: &[u8]) -> DateRead
-        ensures { dateRes result ≡ readDate text.now }
+        ensures { date_res result ≡ read_date text.now }
     {
         if text.len() != 6 {
             return DateRead::Refused(Refusal::WrongLength);
@@ -91,7 +91,7 @@ impl Date {
 
     // A day that exists in its month.
     pub fn by_the_book(self) -> bool
-        ensures { result ≡ dateBook self }
+        ensures { result ≡ date_book self }
     {
         if 99 < self.year {
             return false;
@@ -104,14 +104,14 @@ impl Date {
 
     // The text as a piece, from a place on.
     pub fn put(self, buf: &mut [u8], at: usize) -> usize
-        ensures { Wrote buf.old at (dateText self) buf.new result }
+        ensures { Wrote buf.old at (date_text self) buf.new result }
     {
         put_three(buf, at, self.day, self.month, self.year)
     }
 
     // Prints it.
     pub fn print(self, buf: &mut [u8]) -> Printed
-        ensures { Prints (ok (dateText self)) buf.old buf.new result }
+        ensures { Prints (ok (date_text self)) buf.old buf.new result }
     {
         if buf.len() < self.put(&mut [], 0) {
             return Printed::Refused(Refusal::NoRoom);

@@ -2,9 +2,9 @@
 use Rattle.text.specs.Prelude.{◌≡◌}
 use Rattle.text.proofs.Prelude.{refl}
 use Rattle.text.proofs.Answers.{made}
-use Rattle.e_record.specs.ERecord.{eRes}
+use Rattle.e_record.specs.ERecord.{e_res}
 use Rattle.e_record.specs.declared.ERead.{ERead}
 
-pub e-undone : (r : ERead) → made ERead.Ok ERead.Refused (eRes r) ≡ r
-e-undone (ERead.Ok v) = refl
-e-undone (ERead.Refused n) = refl
+pub e_undone : (r : ERead) → made ERead.Ok ERead.Refused (e_res r) ≡ r
+e_undone (ERead.Ok v) = refl
+e_undone (ERead.Refused n) = refl

@@ -1,9 +1,9 @@
 // E lines, as src/records/e_record.rs has them.
 ghost use Rattle.std.specs.Prelude.{◌≡◌};
-ghost use Rattle.part.specs.Part.{findPart, findMaybe, shown, Shows};
+ghost use Rattle.part.specs.Part.{find_part, find_maybe, shown, Shows};
 ghost use Rattle.put.specs.Put.{Wrote};
 ghost use Rattle.print.specs.Print.{Prints};
-ghost use Rattle.e_record.specs.ERecord.{readE, ePiece, eText, eBook, eRes};
+ghost use Rattle.e_record.specs.ERecord.{read_e, e_piece, e_text, e_book, e_res};
 
 use field::is_ascii;
 use part::{Found, MaybePart, Part};
@@ -13,14 +13,14 @@ use text::refusal::Refusal;
 use time::{Time, TimeRead};
 
 // An event of the flight; the fix that belongs to it is that of the next B line.
-#[derive(Drop)]
+#[derive(Clone, Copy)]
 pub struct ERecord {
     pub mnemonic: Part,
     pub text: MaybePart,
     pub time: Time,
 }
 
-#[derive(Drop)]
+#[derive(Clone, Copy)]
 pub enum ERead {
     Ok(ERecord),
     Refused(Refusal),
@@ -29,7 +29,7 @@ pub enum ERead {
 impl ERecord {
     // Reads an E line.
     pub fn parse(line: &[u8]) -> ERead
-        ensures { eRes result ≡ readE line.now }
+        ensures { e_res result ≡ read_e line.now }
     {
         if line.len() < 10 {
             return ERead::Refused(Refusal::Syntax);
@@ -52,7 +52,7 @@ impl ERecord {
 
     // The code of the event, as a part of the caller's own line.
     pub fn mnemonic(self, line: &[u8]) -> &[u8]
-        ensures { Shows line.entry (shown (findPart self.mnemonic line.now)) result }
+        ensures { Shows line.entry (shown (find_part self.mnemonic line.now)) result }
     {
         let mnemonic = self.mnemonic;
         mnemonic.view(line)
@@ -60,7 +60,7 @@ impl ERecord {
 
     // Its text, as a part of the caller's own line.
     pub fn text(self, line: &[u8]) -> &[u8]
-        ensures { Shows line.entry (shown (findMaybe self.text line.now)) result }
+        ensures { Shows line.entry (shown (find_maybe self.text line.now)) result }
     {
         let text = self.text;
         text.view(line)
@@ -68,7 +68,7 @@ impl ERecord {
 
     // Its time is by the book.
     pub fn by_the_book(self) -> bool
-        ensures { result ≡ eBook self }
+        ensures { result ≡ e_book self }
     {
         let time = self.time;
         time.by_the_book()
@@ -77,7 +77,7 @@ impl ERecord {
     // The text as a piece of a larger one, from a place on: bytes that are too short cut it, and what lies outside the
     // line is left out. `print` is the printer.
     pub fn put_piece(self, buf: &mut [u8], at: usize, line: &[u8]) -> usize
-        ensures { Wrote buf.old at (ePiece self line.now) buf.new result }
+        ensures { Wrote buf.old at (e_piece self line.now) buf.new result }
     {
         let time = self.time;
         let mnemonic = self.mnemonic;
@@ -90,7 +90,7 @@ impl ERecord {
 
     // Prints the record beside its line.
     pub fn print(self, line: &[u8], buf: &mut [u8]) -> Printed
-        ensures { Prints (eText self line.now) buf.old buf.new result }
+        ensures { Prints (e_text self line.now) buf.old buf.new result }
     {
         let mnemonic = self.mnemonic;
         let text = self.text;

@@ -5,7 +5,7 @@ ghost use Rattle.std.specs.Prelude.{◌≡◌};
 ghost use Rattle.text.specs.Res.{ok};
 ghost use Rattle.put.specs.Put.{Wrote};
 ghost use Rattle.print.specs.Print.{Prints};
-ghost use Rattle.extension.specs.Extension.{readExtension, newExtension, extensionText, extensionRes};
+ghost use Rattle.extension.specs.Extension.{read_extension, new_extension, extension_text, extension_res};
 
 use field::Mnemonic;
 use print::number::put_nat;
@@ -14,14 +14,14 @@ use text::number::{U8Read, read_u8};
 use text::refusal::Refusal;
 
 // A named part of a line, from its first column to its last, counted from 1.
-#[derive(Drop)]
+#[derive(Clone, Copy)]
 pub struct Extension {
     pub mnemonic: Mnemonic,
     pub start_byte: u8,
     pub end_byte: u8,
 }
 
-#[derive(Drop)]
+#[derive(Clone, Copy)]
 pub enum ExtensionRead {
     Ok(Extension),
     Refused(Refusal),
@@ -32,7 +32,7 @@ impl Extension {
 
     // Stricter than reading, which takes an end equal to its start and any start.
     pub fn new(mnemonic: Mnemonic, start: u8, end: u8) -> ExtensionRead
-        ensures { extensionRes result ≡ newExtension mnemonic start end }
+        ensures { extension_res result ≡ new_extension mnemonic start end }
     {
         if 3 <= start {
             if start < end {
@@ -48,7 +48,7 @@ impl Extension {
 
     // Reads a definition of seven bytes.
     pub fn parse(text: &[u8]) -> ExtensionRead
-        ensures { extensionRes result ≡ readExtension text.now }
+        ensures { extension_res result ≡ read_extension text.now }
     {
         if text.len() != Extension::STRING_LENGTH {
             return ExtensionRead::Refused(Refusal::Syntax);
@@ -73,7 +73,7 @@ impl Extension {
 
     // The text as a piece, from a place on.
     pub fn put(self, buf: &mut [u8], at: usize) -> usize
-        ensures { Wrote buf.old at (extensionText self) buf.new result }
+        ensures { Wrote buf.old at (extension_text self) buf.new result }
     {
         let mnemonic = self.mnemonic;
         let at_end = put_nat(buf, at, self.start_byte as u64, 2);
@@ -83,7 +83,7 @@ impl Extension {
 
     // Prints it.
     pub fn print(self, buf: &mut [u8]) -> Printed
-        ensures { Prints (ok (extensionText self)) buf.old buf.new result }
+        ensures { Prints (ok (extension_text self)) buf.old buf.new result }
     {
         if buf.len() < self.put(&mut [], 0) {
             return Printed::Refused(Refusal::NoRoom);

@@ -1,7 +1,7 @@
 // Extension values: what a definition names in a line, behind the columns that every such line has.
 ghost use Rattle.std.specs.Prelude.{◌≡◌};
-ghost use Rattle.part.specs.Part.{foundRes, shown, Shows};
-ghost use Rattle.extension.specs.Value.{findValue};
+ghost use Rattle.part.specs.Part.{found_res, shown, Shows};
+ghost use Rattle.extension.specs.Value.{find_value};
 
 use crate::Extension;
 use part::{Found, Part};
@@ -10,7 +10,7 @@ use text::refusal::Refusal;
 impl Extension {
     // Where the value stands in a line with `base` fixed columns and this rest.
     pub fn find(self, base: usize, rest: Part, line: &[u8]) -> Found
-        ensures { foundRes result ≡ findValue base rest self line.now }
+        ensures { found_res result ≡ find_value base rest self line.now }
     {
         match rest.find(line) {
             Found::Refused(no_rest) => Found::Refused(no_rest),
@@ -36,7 +36,7 @@ impl Extension {
 
     // The value itself, as a part of the caller's own line.
     pub fn get_extension(self, base: usize, rest: Part, line: &[u8]) -> &[u8]
-        ensures { Shows line.entry (shown (findValue base rest self line.now)) result }
+        ensures { Shows line.entry (shown (find_value base rest self line.now)) result }
     {
         match self.find(base, rest, line) {
             Found::At(value) => value.view(line),

@@ -2,41 +2,41 @@
 use Rattle.text.specs.Prelude.{ℕ, code, Bool, List, [], ◌∷◌, ◌++◌, length, drop, Res, ok, no, bind, guard, ◌≤?◌}
 use Rattle.text.specs.Prelude.{columns}
 use Rattle.text.specs.declared.refusal.Refusal.TheVariants.{Syntax}
-use Rattle.part.specs.Part.{restFrom, partText, partBytes}
+use Rattle.part.specs.Part.{rest_from, part_text, part_bytes}
 use Rattle.field.specs.Field.{ascii}
-use Rattle.time.specs.Time.{readTime, timeText, timeBook}
-use Rattle.satellites.specs.Satellites.{inPairs, readSatellites}
+use Rattle.time.specs.Time.{read_time_of, time_text, time_book}
+use Rattle.satellites.specs.Satellites.{in_pairs, read_satellites}
 use Rattle.f_record.specs.declared.{FRecord.FRecord, FRead.FRead}
 
 -- Time 1-7, and the list.
-unfoldable pub readHeard : List ℕ → Res FRecord
-readHeard s =
-    bind (columns 1 7 readTime s) (λ time.
-    bind (columns 7 (length s) readSatellites s) (λ heard.
-    ok (record { time = time; list = restFrom 7 s; satellites = heard })))
+unfoldable pub read_heard : List ℕ → Res FRecord
+read_heard s =
+    bind (columns 1 7 read_time_of s) (λ time.
+    bind (columns 7 (length s) read_satellites s) (λ heard.
+    ok (record { time = time; list = rest_from 7 s; satellites = heard })))
 
 -- Under 7 bytes 1; a list of odd length 1; the whole line ASCII (2); then the time and the list.
-unfoldable pub readF : List ℕ → Res FRecord
-readF s = guard (7 ≤? length s) Syntax (guard (inPairs (drop 7 s)) Syntax (ascii readHeard s))
+unfoldable pub read_f : List ℕ → Res FRecord
+read_f s = guard (7 ≤? length s) Syntax (guard (in_pairs (drop 7 s)) Syntax (ascii read_heard s))
 
 -- The letter, the time, the list.
-unfoldable pub fBody : FRecord → List ℕ → List ℕ
-fBody r list = (code "F" ∷ []) ++ (timeText r.time ++ list)
+unfoldable pub f_body : FRecord → List ℕ → List ℕ
+f_body r list = (code "F" ∷ []) ++ (time_text r.time ++ list)
 
 -- The same with the part that the line has; one that lies outside is left out.
-abbrev pub fPiece : FRecord → List ℕ → List ℕ
-fPiece r s = fBody r (partBytes r.list s)
+abbrev pub f_piece : FRecord → List ℕ → List ℕ
+f_piece r s = f_body r (part_bytes r.list s)
 
 -- The text of a record beside its line; 9 where the list lies outside.
-unfoldable pub fText : FRecord → List ℕ → Res (List ℕ)
-fText r s = bind (partText r.list s) (λ list. ok (fBody r list))
+unfoldable pub f_text : FRecord → List ℕ → Res (List ℕ)
+f_text r s = bind (part_text r.list s) (λ list. ok (f_body r list))
 
 -- By the book: its time is.
-unfoldable pub fBook : FRecord → Bool
-fBook r = timeBook r.time
+unfoldable pub f_book : FRecord → Bool
+f_book r = time_book r.time
 
 -- ---- the answers of the code
 
-abbrev pub fRes : FRead → Res FRecord
-fRes (FRead.Ok v) = ok v
-fRes (FRead.Refused n) = no n
+abbrev pub f_res : FRead → Res FRecord
+f_res (FRead.Ok v) = ok v
+f_res (FRead.Refused n) = no n

@@ -1,7 +1,7 @@
 -- What the set of an F line's record says of the list in that line.
 use Rattle.text.specs.Prelude.{ℕ, ◌≡◌, List, drop, ok}
-use Rattle.satellites.specs.Satellites.{occurs, different, numbers, hasNumber, count_of}
-use Rattle.f_record.specs.FRecord.{readF}
+use Rattle.satellites.specs.Satellites.{occurs, different, numbers, has_number, count_of}
+use Rattle.f_record.specs.FRecord.{read_f}
 use Rattle.f_record.specs.declared.FRecord.{FRecord}
 
 -- The numbers that an F line lists, from column 7 on.
@@ -10,9 +10,9 @@ listed s = numbers (drop 7 s)
 
 -- The set of an accepted F line has the numbers that the line lists and no other, and counts the different ones.
 pub record Heard (s : List ℕ) (r : FRecord) : Type 0 where
-  pub has : (n : ℕ) → hasNumber n r.satellites ≡ occurs n (listed s)
+  pub has : (n : ℕ) → has_number n r.satellites ≡ occurs n (listed s)
   pub count : count_of r.satellites ≡ different (listed s)
 
 -- That holds of every line.
 abbrev pub EveryHeard : Type 0
-EveryHeard = (s : List ℕ) (r : FRecord) → readF s ≡ ok r → Heard s r
+EveryHeard = (s : List ℕ) (r : FRecord) → read_f s ≡ ok r → Heard s r

@@ -1,9 +1,9 @@
 // F lines, as src/records/f_record.rs has them.
 ghost use Rattle.std.specs.Prelude.{◌≡◌};
-ghost use Rattle.part.specs.Part.{findPart, shown, Shows};
+ghost use Rattle.part.specs.Part.{find_part, shown, Shows};
 ghost use Rattle.put.specs.Put.{Wrote};
 ghost use Rattle.print.specs.Print.{Prints};
-ghost use Rattle.f_record.specs.FRecord.{readF, fPiece, fText, fBook, fRes};
+ghost use Rattle.f_record.specs.FRecord.{read_f, f_piece, f_text, f_book, f_res};
 
 use field::is_ascii;
 use part::{Found, Part};
@@ -14,14 +14,14 @@ use text::refusal::Refusal;
 use time::{Time, TimeRead};
 
 // The satellites from a time on: the list as it is written, and the set of its numbers.
-#[derive(Drop)]
+#[derive(Clone, Copy)]
 pub struct FRecord {
     pub list: Part,
     pub satellites: Satellites,
     pub time: Time,
 }
 
-#[derive(Drop)]
+#[derive(Clone, Copy)]
 pub enum FRead {
     Ok(FRecord),
     Refused(Refusal),
@@ -30,7 +30,7 @@ pub enum FRead {
 impl FRecord {
     // Reads an F line; as in the Rust, its first byte is not looked at.
     pub fn parse(line: &[u8]) -> FRead
-        ensures { fRes result ≡ readF line.now }
+        ensures { f_res result ≡ read_f line.now }
     {
         if line.len() < 7 {
             return FRead::Refused(Refusal::Syntax);
@@ -56,7 +56,7 @@ impl FRecord {
 
     // The list, as a part of the caller's own line.
     pub fn list(self, line: &[u8]) -> &[u8]
-        ensures { Shows line.entry (shown (findPart self.list line.now)) result }
+        ensures { Shows line.entry (shown (find_part self.list line.now)) result }
     {
         let list = self.list;
         list.view(line)
@@ -64,7 +64,7 @@ impl FRecord {
 
     // Its time is by the book.
     pub fn by_the_book(self) -> bool
-        ensures { result ≡ fBook self }
+        ensures { result ≡ f_book self }
     {
         let time = self.time;
         time.by_the_book()
@@ -73,7 +73,7 @@ impl FRecord {
     // The text as a piece of a larger one, from a place on: bytes that are too short cut it, and what lies outside the
     // line is left out. `print` is the printer.
     pub fn put_piece(self, buf: &mut [u8], at: usize, line: &[u8]) -> usize
-        ensures { Wrote buf.old at (fPiece self line.now) buf.new result }
+        ensures { Wrote buf.old at (f_piece self line.now) buf.new result }
     {
         let time = self.time;
         let list = self.list;
@@ -84,7 +84,7 @@ impl FRecord {
 
     // Prints the record beside its line.
     pub fn print(self, line: &[u8], buf: &mut [u8]) -> Printed
-        ensures { Prints (fText self line.now) buf.old buf.new result }
+        ensures { Prints (f_text self line.now) buf.old buf.new result }
     {
         let list = self.list;
         match list.find(line) {

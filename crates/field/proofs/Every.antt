@@ -23,15 +23,15 @@ pub record Every (test : ℕ → Bool) (all : List ℕ → Bool) : Type 0 where
 
 module _ {test : ℕ → Bool} {all : List ℕ → Bool} (every : Every test all) (s : List ℕ) (i : ℕ) where
   -- the byte at i, and those after it, from j on
-  pub all-at : (j : ℕ) {rest : Bool} → j ≡ i + 1 → i < length s → all (drop j s) ≡ rest → all (drop i s)
+  pub all_at : (j : ℕ) {rest : Bool} → j ≡ i + 1 → i < length s → all (drop j s) ≡ rest → all (drop i s)
       ≡ (test (get_or s i 0) ∧? rest)
-  all-at j e inside q = rw (drop-cons s i 0 inside, ← q, e, add-one) (every.all_cons (get_or s i 0) (drop (suc i) s))
+  all_at j e inside q = rw (drop-cons s i 0 inside, ← q, e, add-one) (every.all_cons (get_or s i 0) (drop (suc i) s))
 
   -- a turn of a loop with no way out: what is seen of the bytes before i and what is left, from here, are the whole
-  pub next-seen : (seen : Bool) {now t : Bool} → i < length s → (seen ∧? all (drop i s)) ≡ t → now
+  pub next_seen : (seen : Bool) {t.now : Bool} → i < length s → (seen ∧? all (drop i s)) ≡ t → now
       ≡ (test (get_or s i 0) ∧? seen) → (now ∧? all (drop (i + 1) s)) ≡ t
-  next-seen seen inside inv e = rw (e, ∧?-comm (test (get_or s i 0)) seen)
-      (∧?-assoc _ _ _ ∙ ap (λ left. seen ∧? left) (sym (all-at (i + 1) refl inside refl)) ∙ inv)
+  next_seen seen inside inv e = rw (e, ∧?-comm (test (get_or s i 0)) seen)
+      (∧?-assoc _ _ _ ∙ ap (λ left. seen ∧? left) (sym (all_at (i + 1) refl inside refl)) ∙ inv)
 
   pub all_seen : {seen t : Bool} → length s ≤ i → (seen ∧? all (drop i s)) ≡ t → seen ≡ t
   all_seen {seen} past inv = sym (∧?-comm seen true ∙ holds refl refl)
@@ -39,13 +39,13 @@ module _ {test : ℕ → Bool} {all : List ℕ → Bool} (every : Every test all
 
   -- a turn of a loop that is left at the first byte that fails: what is left, from here, is the whole
   module _ {t : Bool} (inside : i < length s) (inv : all (drop i s) ≡ t) where
-    pub every-fails : test (get_or s i 0) ≡ false → false ≡ t
+    pub every_fails : test (get_or s i 0) ≡ false → false ≡ t
     unfolding ◌∧?◌ pick
-    every-fails h = next-seen true {now = false} inside inv (rw h)
+    every_fails h = next_seen true {now = false} inside inv (rw h)
 
-    pub every-next : test (get_or s i 0) ≡ true → all (drop (i + 1) s) ≡ t
+    pub every_next : test (get_or s i 0) ≡ true → all (drop (i + 1) s) ≡ t
     unfolding ◌∧?◌ pick
-    every-next h = next-seen true {now = true} inside inv (rw h)
+    every_next h = next_seen true {now = true} inside inv (rw h)
 
-  pub every-done : {t : Bool} → length s ≤ i → all (drop i s) ≡ t → true ≡ t
-  every-done past inv = all_seen past (holds refl inv)
+  pub every_done : {t : Bool} → length s ≤ i → all (drop i s) ≡ t → true ≡ t
+  every_done past inv = all_seen past (holds refl inv)

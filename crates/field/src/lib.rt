@@ -1,19 +1,19 @@
 // What every field is read by: tests of all its bytes, and three bytes by value.
 ghost use Rattle.std.specs.Prelude.{◌≡◌, [], ◌∷◌, ◌+◌, ◌*◌, ◌<◌, ◌^◌, drop};
-ghost use Rattle.text.specs.Number.{isDigit, allDigits, firstOther};
+ghost use Rattle.text.specs.Number.{is_digit_of, all_digits_of, first_other_of};
 ghost use Rattle.put.specs.Put.{Wrote};
-ghost use Rattle.field.specs.Field.{isAscii, mnemonicText};
+ghost use Rattle.field.specs.Field.{is_ascii_of, mnemonic_text};
 
 use put::put_byte;
 
 // Three bytes by value, where the Rust holds a `&str` of three characters.
-#[derive(Drop)]
+#[derive(Clone, Copy)]
 pub struct Mnemonic(pub u8, pub u8, pub u8);
 
 impl Mnemonic {
     // Its three bytes as a piece, from a place on.
     pub fn put(self, buf: &mut [u8], at: usize) -> usize
-        ensures { Wrote buf.old at (mnemonicText self) buf.new result }
+        ensures { Wrote buf.old at (mnemonic_text self) buf.new result }
     {
         let at_second = put_byte(buf, at, self.0);
         let at_third = put_byte(buf, at_second, self.1);
@@ -31,7 +31,7 @@ fn join(high: u64, low: u8) -> u64
 
 // Eight bytes are ASCII: the compiler makes one load and one test of it.
 fn low8(a: u8, b: u8, c: u8, d: u8, e: u8, f: u8, g: u8, h: u8) -> bool
-    ensures { result ≡ isAscii (a ∷ b ∷ c ∷ d ∷ e ∷ f ∷ g ∷ h ∷ []) }
+    ensures { result ≡ is_ascii_of (a ∷ b ∷ c ∷ d ∷ e ∷ f ∷ g ∷ h ∷ []) }
 {
     let low = join(join(join(h as u64, g), f), e);
     join(join(join(join(low, d), c), b), a) & 0x8080_8080_8080_8080 == 0
@@ -39,7 +39,7 @@ fn low8(a: u8, b: u8, c: u8, d: u8, e: u8, f: u8, g: u8, h: u8) -> bool
 
 // From a place on every byte is ASCII: byte by byte.
 fn ascii_tail(text: &[u8], at: usize) -> bool
-    ensures { result ≡ isAscii (drop at text.now) }
+    ensures { result ≡ is_ascii_of (drop at text.now) }
 {
     let mut i = at;
     while i < text.len() {
@@ -53,7 +53,7 @@ fn ascii_tail(text: &[u8], at: usize) -> bool
 
 // Eight bytes a turn.
 pub fn is_ascii(text: &[u8]) -> bool
-    ensures { result ≡ isAscii text.now }
+    ensures { result ≡ is_ascii_of text.now }
 {
     let mut i = 0;
     while 8 <= text.len() - i {
@@ -76,7 +76,7 @@ pub fn is_ascii(text: &[u8]) -> bool
 
 // With no way out of the loop but its end the compiler tests many bytes at once.
 pub fn all_digits(text: &[u8]) -> bool
-    ensures { result ≡ allDigits text.now }
+    ensures { result ≡ all_digits_of text.now }
 {
     let mut all = true;
     let mut i = 0;
@@ -91,7 +91,7 @@ pub fn all_digits(text: &[u8]) -> bool
 
 // How many digits stand before the first byte that is none; of digits alone, all.
 pub fn first_other(text: &[u8]) -> usize
-    ensures { result ≡ firstOther text.now }
+    ensures { result ≡ first_other_of text.now }
 {
     let mut i = 0;
     while i < text.len() {
@@ -104,7 +104,7 @@ pub fn first_other(text: &[u8]) -> usize
 }
 
 fn is_digit(b: u8) -> bool
-    ensures { result ≡ isDigit b }
+    ensures { result ≡ is_digit_of b }
 {
     if b < 48 {
         return false;

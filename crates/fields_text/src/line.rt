@@ -1,8 +1,8 @@
 // A whole line of the program's text.
 ghost use Rattle.put.specs.Put.{Wrote};
-ghost use Rattle.records.specs.Record.{readingRes};
-ghost use Rattle.record_print.specs.Printed.{recordPiece};
-ghost use Rattle.fields_text.specs.Line.{bookShown, printedShown, seen, placeShown, fieldsShown, fieldsLine};
+ghost use Rattle.records.specs.Record.{reading_res};
+ghost use Rattle.record_print.specs.Printed.{record_piece};
+ghost use Rattle.fields_text.specs.Line.{book_shown, printed_shown, seen, place_shown, fields_shown, fields_line};
 
 use held::tables::Tables;
 use listing_text::put_head;
@@ -17,7 +17,7 @@ use text::refusal::{MaybePlace, Refusal};
 
 // `y` or `n` for by the book; nothing of a line that is not read.
 fn put_book(buf: &mut [u8], at: usize, rec: Record) -> usize
-    ensures { Wrote buf.old at (bookShown rec) buf.new result }
+    ensures { Wrote buf.old at (book_shown rec) buf.new result }
 {
     if rec.number() != 0 {
         return at;
@@ -30,7 +30,7 @@ fn put_book(buf: &mut [u8], at: usize, rec: Record) -> usize
 
 // The record as printed, behind ` =`.
 fn put_printed(buf: &mut [u8], at: usize, rec: Record, table: Table, line: &[u8]) -> usize
-    ensures { Wrote buf.old at (printedShown (recordPiece rec table line.now))
+    ensures { Wrote buf.old at (printed_shown (record_piece rec table line.now))
         buf.new result }
 {
     let at_sign = put_byte(buf, at, b' ');
@@ -58,7 +58,7 @@ fn put_seen(
 
 // `@` and the place of an unreadable number, right behind its answer.
 fn put_place(buf: &mut [u8], at: usize, no: Refusal) -> usize
-    ensures { Wrote buf.old at (placeShown no) buf.new result }
+    ensures { Wrote buf.old at (place_shown no) buf.new result }
 {
     match no.place() {
         MaybePlace::At(place) => {
@@ -78,7 +78,7 @@ fn put_fields(
     names: &[u8],
     line: &[u8],
 ) -> usize
-    ensures { Wrote buf.old at (fieldsShown (readingRes reading) held names.now
+    ensures { Wrote buf.old at (fields_shown (reading_res reading) held names.now
         line.now) buf.new result }
 {
     match reading {
@@ -98,7 +98,7 @@ pub fn put_line(
     held: Tables,
     names: &[u8],
 ) -> usize
-    ensures { Wrote buf.old at (fieldsLine number line.now (readingRes reading) held
+    ensures { Wrote buf.old at (fields_line number line.now (reading_res reading) held
         names.now) buf.new result }
 {
     let at_fields = put_head(buf, at, number, line, reading);

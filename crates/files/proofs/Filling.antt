@@ -11,8 +11,8 @@ pub record Filling (from : ℕ) (b₀ b : List ℕ) (at : ℕ) : Type 0 where
   pub front : take from b ≡ take from b₀
   pub behind : from ≤ at
 
-pub at-start : {from : ℕ} {b : List ℕ} → Filling from b b from
-at-start = record { long = refl; front = refl; behind = omega arith }
+pub at_start : {from : ℕ} {b : List ℕ} → Filling from b b from
+at_start = record { long = refl; front = refl; behind = omega arith }
 
 module _ {from at : ℕ} {b₀ b : List ℕ} (f : Filling from b₀ b at) where
   -- they are full
@@ -43,14 +43,14 @@ module _ {from at : ℕ} {b₀ b : List ℕ} (f : Filling from b₀ b at) where
 -- ---- what a caller goes on with
 
 -- where the input ended is inside
-pub ended-inside : (r : Filled) {from : ℕ} {b b' : List ℕ} → FilledBehind from b b' r → Within r b'
-ended-inside (Filled.Ended n) f = omega (arith, f.inside.1, f.long)
-ended-inside Filled.Full f = tt
-ended-inside Filled.Failed f = tt
+pub ended_inside : (r : Filled) {from : ℕ} {b b' : List ℕ} → FilledBehind from b b' r → Within r b'
+ended_inside (Filled.Ended n) f = omega (arith, f.inside.1, f.long)
+ended_inside Filled.Full f = tt
+ended_inside Filled.Failed f = tt
 
 -- bytes that came are inside
-pub came-inside : (r : Came) {from : ℕ} {b b' : List ℕ} → MoreBehind from b b' r → Behind from b' r
-came-inside (Came.Bytes n) f = omega (arith, f.inside, f.long)
-came-inside Came.Ended f = omega (arith, f.inside, f.long)
-came-inside Came.NoRoom f = omega (arith, f.inside, f.long)
-came-inside Came.Failed f = tt
+pub came_inside : (r : Came) {from : ℕ} {b b' : List ℕ} → MoreBehind from b b' r → Behind from b' r
+came_inside (Came.Bytes n) f = omega (arith, f.inside, f.long)
+came_inside Came.Ended f = omega (arith, f.inside, f.long)
+came_inside Came.NoRoom f = omega (arith, f.inside, f.long)
+came_inside Came.Failed f = tt

@@ -14,8 +14,8 @@ pub record Showing (w₀ : List ℕ) (i : ℕ) (w : List ℕ) : Type 0 where
   pub content : w ≡ paste w₀ 0 (map visible w₀) i
 
 -- before the first
-pub at-start : {w : List ℕ} → Showing w 0 w
-at-start {w} = record { long = refl; inside = omega arith; content = paste-zero w 0 (map visible w) }
+pub at_start : {w : List ℕ} → Showing w 0 w
+at_start {w} = record { long = refl; inside = omega arith; content = paste-zero w 0 (map visible w) }
 
 module _ {w₀ w : List ℕ} {i : ℕ} (m : Showing w₀ i w) where
   -- the byte to show next is as it was
@@ -26,8 +26,8 @@ module _ {w₀ w : List ℕ} {i : ℕ} (m : Showing w₀ i w) where
       rw (e, ← get_or-drop (0 + i) w 0 0, ← get_or-drop (0 + i) w₀ 0 0, m.content, b)
 
   -- with it one more is shown
-  pub next-shown : {b : ℕ} → i < length w₀ → b ≡ visible (get_or w i 0) → Showing w₀ (i + 1) (set w i b)
-  next-shown h e =
+  pub next_shown : {b : ℕ} → i < length w₀ → b ≡ visible (get_or w i 0) → Showing w₀ (i + 1) (set w i b)
+  next_shown h e =
       let p = paste-suc w₀ 0 (map visible w₀) i (visible 0) (omega arith) (omega (arith, length-map w₀ visible)) in
       let k : _ ≡ get_or (map visible w₀) i (visible 0) = e ∙ ap visible source ∙ sym (get_or-map visible w₀ i 0) in
       record {

@@ -4,5 +4,5 @@ use Rattle.text.specs.Prelude.{ℕ, ◌≡◌, length, replicate}
 use Rattle.text.proofs.Prelude.{sym}
 use lib.ListN.{length-replicate}
 
-pub zeros-long : (n z : ℕ) → n ≡ length (replicate n z)
-zeros-long n z = sym (length-replicate n z)
+pub zeros_long : (n z : ℕ) → n ≡ length (replicate n z)
+zeros_long n z = sym (length-replicate n z)

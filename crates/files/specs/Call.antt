@@ -4,16 +4,16 @@ use Rattle.files.specs.declared.call.Did.{Did}
 use Rattle.files.specs.declared.call.Did.TheVariants.{Bytes, Nothing, Again, Closed, Failed}
 
 -- errno is that number.
-unfoldable pub isErrno : ℕ → ℤ → Bool
-isErrno n (pos k) = k =? n
-isErrno n (negsuc k) = false
+unfoldable pub is_errno : ℕ → ℤ → Bool
+is_errno n (pos k) = k =? n
+is_errno n (negsuc k) = false
 
 -- By its answer, how many bytes it moved, or a negative number and errno: a signal interrupted it (EINTR, 4), nobody
 -- reads the pipe any more (EPIPE, 32), or it failed.
-unfoldable pub didOf : ℤ → ℤ → Did
-didOf (pos zero) errno = Nothing
-didOf (pos (suc n)) errno = Bytes (suc n)
-didOf (negsuc k) errno = pick (isErrno 4 errno) Again (pick (isErrno 32 errno) Closed Failed)
+unfoldable pub did_of : ℤ → ℤ → Did
+did_of (pos zero) errno = Nothing
+did_of (pos (suc n)) errno = Bytes (suc n)
+did_of (negsuc k) errno = pick (is_errno 4 errno) Again (pick (is_errno 32 errno) Closed Failed)
 
 -- No more bytes were moved than there are from the place on.
 abbrev pub NoMoreThan : ℕ → List ℕ → Did → Type 0

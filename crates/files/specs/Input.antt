@@ -4,8 +4,8 @@ use Rattle.files.specs.Call.{NoMoreThan}
 use Rattle.files.specs.declared.{call.Did.Did, input.Filled.Filled, input.Came.Came}
 
 -- The name that stands for standard input.
-unfoldable pub isDash : List ℕ → Bool
-isDash s = (length s =? 1) ∧? (byte 0 s =? code "-")
+unfoldable pub is_dash_of : List ℕ → Bool
+is_dash_of s = (length s =? 1) ∧? (byte 0 s =? code "-")
 
 -- The first `at` of the lent bytes stay.
 pub record CameBehind (at : ℕ) (b b' : List ℕ) (r : Did) : Type 0 where

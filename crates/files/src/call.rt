@@ -1,9 +1,9 @@
 // What one call of `read` or of `write` did.
 ghost use Rattle.std.specs.Prelude.{◌≡◌};
-ghost use Rattle.files.specs.Call.{didOf};
+ghost use Rattle.files.specs.Call.{did_of};
 
 // It moved bytes, or none; a signal interrupted it; nobody reads the pipe any more; it failed.
-#[derive(Drop)]
+#[derive(Clone, Copy)]
 pub enum Did {
     Bytes(usize),
     Nothing,
@@ -14,7 +14,7 @@ pub enum Did {
 
 // By what the call answered, and errno: no error is ever an answer of 0.
 pub fn did_by(got: isize, errno: i32) -> Did
-    ensures { result ≡ didOf got errno }
+    ensures { result ≡ did_of got errno }
 {
     if got < 0 {
         if errno == libc::EINTR {

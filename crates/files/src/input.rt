@@ -1,11 +1,11 @@
 // Reading a descriptor into lent bytes.
 ghost use Rattle.std.specs.Prelude.{◌≡◌, true, ◌≤◌, length, pos};
-ghost use Rattle.files.specs.Input.{CameBehind, FilledBehind, MoreBehind, isDash};
+ghost use Rattle.files.specs.Input.{CameBehind, FilledBehind, MoreBehind, is_dash_of};
 
 use crate::call::{Did, did_by};
 
 // How far lent bytes were filled: up to the input's end; wholly, and no end was seen; or a read failed.
-#[derive(Drop)]
+#[derive(Clone, Copy)]
 pub enum Filled {
     Ended(usize),
     Full,
@@ -14,7 +14,7 @@ pub enum Filled {
 
 // What came behind the first of some lent bytes: so many; none, for the input has ended, or there is no room for any;
 // or a read failed.
-#[derive(Drop)]
+#[derive(Clone, Copy)]
 pub enum Came {
     Bytes(usize),
     Ended,
@@ -92,7 +92,7 @@ pub fn read_more(fd: i32, buf: &mut [u8], from: usize) -> Came
 
 // The name that stands for standard input.
 pub fn is_dash(file: &[u8]) -> bool
-    ensures { result ≡ isDash file.now }
+    ensures { result ≡ is_dash_of file.now }
 {
     if file.len() != 1 {
         return false;
@@ -102,7 +102,7 @@ pub fn is_dash(file: &[u8]) -> bool
 
 // Standard input, or the file with this name; the descriptor, or -1.
 pub fn open(file: &[u8]) -> i32
-    ensures { isDash file.now ≡ true → result ≡ pos 0 }
+    ensures { is_dash_of file.now ≡ true → result ≡ pos 0 }
 {
     if is_dash(file) {
         return 0;

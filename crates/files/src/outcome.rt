@@ -1,6 +1,6 @@
 // How a run ended, and a text written.
 ghost use Rattle.std.specs.Prelude.{◌≡◌};
-ghost use Rattle.files.specs.Outcome.{hasFailed, cutsShort, outcomeOf, outcomeAfter, Sent};
+ghost use Rattle.files.specs.Outcome.{has_failed_of, cuts_short_of, outcome_of, outcome_after, Sent};
 
 use crate::input::Filled;
 use crate::output::{Written, write_all};
@@ -8,7 +8,7 @@ use crate::terminal::make_visible;
 
 // Nothing went wrong; the log could not be read to its end; after so many lines one is longer than the window, or its
 // text has no room; the text could not be written; nobody reads it any more.
-#[derive(Drop)]
+#[derive(Clone, Copy)]
 pub enum Outcome {
     Done,
     NotRead,
@@ -21,7 +21,7 @@ pub enum Outcome {
 impl Outcome {
     // Something went wrong.
     pub fn has_failed(self) -> bool
-        ensures { result ≡ hasFailed self }
+        ensures { result ≡ has_failed_of self }
     {
         match self {
             Outcome::Done => false,
@@ -35,7 +35,7 @@ impl Outcome {
 
     // What was written is true as far as it goes, and the log goes on.
     pub fn cuts_short(self) -> bool
-        ensures { result ≡ cutsShort self }
+        ensures { result ≡ cuts_short_of self }
     {
         match self {
             Outcome::Done => false,
@@ -49,7 +49,7 @@ impl Outcome {
 
     // A log that could not be read to its end has no good outcome, whatever was written.
     pub fn of_filled(filled: Filled, written: Outcome) -> Outcome
-        ensures { result ≡ outcomeAfter filled written }
+        ensures { result ≡ outcome_after filled written }
     {
         match filled {
             Filled::Ended(_) => written,
@@ -60,7 +60,7 @@ impl Outcome {
 
     // By what became of the text.
     pub fn of_written(written: Written) -> Outcome
-        ensures { result ≡ outcomeOf written }
+        ensures { result ≡ outcome_of written }
     {
         match written {
             Written::All => Outcome::Done,

@@ -6,7 +6,7 @@ ghost use Rattle.files.specs.Output.{WrittenOf};
 use crate::call::{Did, did_by};
 
 // All of a text was written; or the reader of the pipe is gone; or a write failed.
-#[derive(Drop)]
+#[derive(Clone, Copy)]
 pub enum Written {
     All,
     Closed,

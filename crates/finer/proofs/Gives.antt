@@ -5,24 +5,24 @@ use Rattle.part.specs.Part.{bytes_of}
 use Rattle.part.specs.declared.Part.{Part}
 use Rattle.raw_coord.specs.declared.RawCoord.{RawCoord}
 use Rattle.b_record.specs.declared.BRecord.{BRecord}
-use Rattle.held.specs.Held.{lookUp}
+use Rattle.held.specs.Held.{look_up}
 use Rattle.held.specs.declared.tables.Tables.{Tables}
-use Rattle.finer.specs.Finer.{LAD, LOD, finely, plainly, after, narrow, readFiner, both, isUndefined}
-use Rattle.finer.specs.Finer.{positionBy, finerPosition, Lies}
+use Rattle.finer.specs.Finer.{LAD, LOD, finely, plainly, after, narrow, read_finer, both, is_undefined_of}
+use Rattle.finer.specs.Finer.{position_by_of, finer_position, Lies}
 use Rattle.finer.specs.Laws.{Given}
 use Rattle.finer.specs.declared.{FinerCoord.FinerCoord, FinerRead.FinerRead, FinerPosition.FinerPosition}
 use Rattle.finer.specs.declared.FinerPositionRead.{FinerPositionRead}
 use Rattle.finer.proofs.Parts.{wide}
 use Rattle.finer.proofs.Reading.{read_below}
-use Rattle.finer.proofs.Plain.{no-digits-plain, look-lies, look-some}
+use Rattle.finer.proofs.Plain.{no_digits_plain, look_lies, look_some}
 use Rattle.finer.proofs.Digits.{drops}
 
 record Gives (x : FinerRead) (P : FinerCoord → Type 0) : Type 0 where
   it : (f : FinerCoord) → x ≡ FinerRead.Ok f → P f
 
 module _ {P : FinerCoord → Type 0} where
-  gives-ok : {f : FinerCoord} → P f → Gives (FinerRead.Ok f) P
-  gives-ok {f} p = record { it = λ g e. let same : f ≡ g = cc in subst P same p }
+  gives_ok : {f : FinerCoord} → P f → Gives (FinerRead.Ok f) P
+  gives_ok {f} p = record { it = λ g e. let same : f ≡ g = cc in subst P same p }
 
   gives_after : {A : Type 0} {m : Res A} {g : A → FinerRead} → ((a : A) → m ≡ ok a → Gives (g a) P) →
       Gives (after m g) P
@@ -30,86 +30,86 @@ module _ {P : FinerCoord → Type 0} where
   gives_after {m = ok a} q = q a refl
   gives_after {m = no n} q = record { it = λ f e. let z : ◌≡◌ {A = ℕ} 0 1 = cc in absurd (omega arith) }
 
-  gives-narrow : {t : Bool} {r : FinerRead} → (t ≡ true → Gives r P) → Gives (narrow t r) P
+  gives_narrow : {t : Bool} {r : FinerRead} → (t ≡ true → Gives r P) → Gives (narrow t r) P
   unfolding narrow
-  gives-narrow {t = true} q = q refl
-  gives-narrow {t = false} q = record { it = λ f e. let z : ◌≡◌ {A = ℕ} 0 1 = cc in absurd (omega arith) }
+  gives_narrow {t = true} q = q refl
+  gives_narrow {t = false} q = record { it = λ f e. let z : ◌≡◌ {A = ℕ} 0 1 = cc in absurd (omega arith) }
 
 -- what was found in a part of the line was found there
-found-moved : {A : Type 0} (a : ℕ) (m : Res A) {v : A} → moved a m ≡ ok v → ok v ≡ m
+found_moved : {A : Type 0} (a : ℕ) (m : Res A) {v : A} → moved a m ≡ ok v → ok v ≡ m
 unfolding moved
-found-moved a (ok w) e = sym e
-found-moved a (no n) e = let z : ◌≡◌ {A = ℕ} 0 1 = cc in absurd (omega arith)
+found_moved a (ok w) e = sym e
+found_moved a (no n) e = let z : ◌≡◌ {A = ℕ} 0 1 = cc in absurd (omega arith)
 
 -- digits more, at most five
-with-digits : (c : RawCoord) (n d : ℕ) → n ≤ 5 → d < 10 ^ n → Given c (finely n d c)
+with_digits : (c : RawCoord) (n d : ℕ) → n ≤ 5 → d < 10 ^ n → Given c (finely n d c)
 unfolding finely
-with-digits c n d l h = record { digits = d; few = l; below = h; is = refl; drops = drops c n d h }
+with_digits c n d l h = record { digits = d; few = l; below = h; is = refl; drops = drops c n d h }
 
-plain-given : (c : RawCoord) → Given c (plainly c)
-plain-given c = subst (Given c) (no-digits-plain c) (with-digits c 0 0 (omega arith) (omega arith))
+plain_given : (c : RawCoord) → Given c (plainly c)
+plain_given c = subst (Given c) (no_digits_plain c) (with_digits c 0 0 (omega arith) (omega arith))
 
 -- what lookup found is given so
-read-given : (m : Res Part) (c : RawCoord) (s : List ℕ) → Lies m s → Gives (readFiner m c s) (Given c)
-unfolding readFiner
-read-given m c s lies =
-    gives_after (λ p found. gives-narrow (λ few. gives_after (λ d read.
-    gives-ok (with-digits c p.len d (is≤ few)
-    (subst (λ n. d < 10 ^ n) (wide p s (lies p found)) (read_below (bytes_of p s) (found-moved _ _ read)))))))
+read_given : (m : Res Part) (c : RawCoord) (s : List ℕ) → Lies m s → Gives (read_finer m c s) (Given c)
+unfolding read_finer
+read_given m c s lies =
+    gives_after (λ p found. gives_narrow (λ few. gives_after (λ d read.
+    gives_ok (with_digits c p.len d (is≤ few)
+    (subst (λ n. d < 10 ^ n) (wide p s (lies p found)) (read_below (bytes_of p s) (found_moved _ _ read)))))))
 
 -- both coordinates of a position
-both-given : (a b : FinerRead) (p : FinerPosition) → both a b ≡ FinerPositionRead.Ok p →
+both_given : (a b : FinerRead) (p : FinerPosition) → both a b ≡ FinerPositionRead.Ok p →
     (a ≡ FinerRead.Ok p.lat.0) × (b ≡ FinerRead.Ok p.lon.0)
 unfolding both
-both-given (FinerRead.Refused n) b p e = let z : ◌≡◌ {A = ℕ} 0 1 = cc in absurd (omega arith)
-both-given (FinerRead.Ok lat) (FinerRead.Refused n) p e = let z : ◌≡◌ {A = ℕ} 0 1 = cc in absurd (omega arith)
-both-given (FinerRead.Ok lat) (FinerRead.Ok lon) p e =
+both_given (FinerRead.Refused n) b p e = let z : ◌≡◌ {A = ℕ} 0 1 = cc in absurd (omega arith)
+both_given (FinerRead.Ok lat) (FinerRead.Refused n) p e = let z : ◌≡◌ {A = ℕ} 0 1 = cc in absurd (omega arith)
+both_given (FinerRead.Ok lat) (FinerRead.Ok lon) p e =
     let same : ◌≡◌ {A = FinerPosition} (record { lat = record { 0 = lat }; lon = record { 0 = lon } }) p = cc in
     (ap (λ q. FinerRead.Ok q.lat.0) same, ap (λ q. FinerRead.Ok q.lon.0) same)
 
-position-given : (lad lod : Res Part) (lat lon : RawCoord) (s : List ℕ) (p : FinerPosition) → Lies lad s → Lies lod s →
-    positionBy lad lod lat lon s ≡ FinerPositionRead.Ok p →
+position_given : (lad lod : Res Part) (lat lon : RawCoord) (s : List ℕ) (p : FinerPosition) → Lies lad s → Lies lod s →
+    position_by_of lad lod lat lon s ≡ FinerPositionRead.Ok p →
     Given lat p.lat.0 × Given lon p.lon.0
-unfolding positionBy pick
-position-given lad lod lat lon s p l k e = by (isUndefined lad ∨? isUndefined lod) e
+unfolding position_by_of pick
+position_given lad lod lat lon s p l k e = by (is_undefined_of lad ∨? is_undefined_of lod) e
   where
     by : (t : Bool) →
         pick t (both (FinerRead.Ok (plainly lat)) (FinerRead.Ok (plainly lon)))
-        (both (readFiner lad lat s) (readFiner lod lon s)) ≡ FinerPositionRead.Ok p →
+        (both (read_finer lad lat s) (read_finer lod lon s)) ≡ FinerPositionRead.Ok p →
         Given lat p.lat.0 × Given lon p.lon.0
     by true h =
-        let g = both-given _ _ p h in (
-          (gives-ok {P = Given lat} (plain-given lat)).it _ g.0,
-          (gives-ok {P = Given lon} (plain-given lon)).it _ g.1,
+        let g = both_given _ _ p h in (
+          (gives_ok {P = Given lat} (plain_given lat)).it _ g.0,
+          (gives_ok {P = Given lon} (plain_given lon)).it _ g.1,
         )
     by false h =
-        let g = both-given _ _ p h in
-        ((read-given lad lat s l).it _ g.0, (read-given lod lon s k).it _ g.1)
+        let g = both_given _ _ p h in
+        ((read_given lad lat s l).it _ g.0, (read_given lod lon s k).it _ g.1)
 
 pub given : (fix : BRecord) (t : Tables) (s : List ℕ) (p : FinerPosition) →
-    finerPosition fix t s ≡ FinerPositionRead.Ok p →
+    finer_position fix t s ≡ FinerPositionRead.Ok p →
     Given fix.pos.lat.0 p.lat.0 × Given fix.pos.lon.0 p.lon.0
-unfolding finerPosition
+unfolding finer_position
 given fix t s p e =
-    position-given _ _ fix.pos.lat.0 fix.pos.lon.0 s p
-    (look-lies 35 fix.rest t.i LAD s refl) (look-lies 35 fix.rest t.i LOD s refl) e
+    position_given _ _ fix.pos.lat.0 fix.pos.lon.0 s p
+    (look_lies 35 fix.rest t.i LAD s refl) (look_lies 35 fix.rest t.i LOD s refl) e
 
 -- ---- a digit at least
 
 read_some : (m : Res Part) (c : RawCoord) (s : List ℕ) → ((p : Part) → m ≡ ok p → 1 ≤ p.len) →
-    Gives (readFiner m c s) (λ f. 1 ≤ f.n)
-unfolding readFiner finely
+    Gives (read_finer m c s) (λ f. 1 ≤ f.n)
+unfolding read_finer finely
 read_some m c s long =
-    gives_after (λ p found. gives-narrow (λ _. gives_after (λ _ _. gives-ok (long p found))))
+    gives_after (λ p found. gives_narrow (λ _. gives_after (λ _ _. gives_ok (long p found))))
 
 pub some : (fix : BRecord) (t : Tables) (s : List ℕ) (p : FinerPosition) →
-    isUndefined (lookUp 35 fix.rest t.i LAD s) ≡ false →
-    isUndefined (lookUp 35 fix.rest t.i LOD s) ≡ false →
-    finerPosition fix t s ≡ FinerPositionRead.Ok p →
+    is_undefined_of (look_up 35 fix.rest t.i LAD s) ≡ false →
+    is_undefined_of (look_up 35 fix.rest t.i LOD s) ≡ false →
+    finer_position fix t s ≡ FinerPositionRead.Ok p →
     (1 ≤ p.lat.0.n) × (1 ≤ p.lon.0.n)
-unfolding finerPosition positionBy ◌∨?◌ pick
+unfolding finer_position position_by_of ◌∨?◌ pick
 some fix t s p d k e =
-    let g = both-given _ _ p (rw (d, k) at e) in (
-      (read_some _ fix.pos.lat.0 s (look-some 35 fix.rest t.i LAD s)).it _ g.0,
-      (read_some _ fix.pos.lon.0 s (look-some 35 fix.rest t.i LOD s)).it _ g.1,
+    let g = both_given _ _ p (rw (d, k) at e) in (
+      (read_some _ fix.pos.lat.0 s (look_some 35 fix.rest t.i LAD s)).it _ g.0,
+      (read_some _ fix.pos.lon.0 s (look_some 35 fix.rest t.i LOD s)).it _ g.1,
     )

@@ -1,15 +1,15 @@
 -- Parts that lie inside a line.
 use Rattle.text.specs.Prelude.{◌+◌, ◌≤◌, ◌≡◌, List, ℕ, length}
 use Rattle.text.proofs.Prelude.{arith, refl, ap, length-drop, length-take-le, pass, yes≤}
-use Rattle.part.specs.Part.{bytes_of, findPart, partBytes}
+use Rattle.part.specs.Part.{bytes_of, find_part, part_bytes}
 use Rattle.part.specs.declared.Part.{Part}
-use Rattle.part.proofs.Parts.{shown-found}
+use Rattle.part.proofs.Parts.{shown_found}
 
 module _ (p : Part) (s : List ℕ) (lies : p.start + p.len ≤ length s) where
   -- a view of one hands out its bytes
-  pub viewed : partBytes p s ≡ bytes_of p s
-  unfolding findPart
-  viewed = ap (λ q. bytes_of q s) (shown-found (pass _ (yes≤ lies) refl))
+  pub viewed : part_bytes p s ≡ bytes_of p s
+  unfolding find_part
+  viewed = ap (λ q. bytes_of q s) (shown_found (pass _ (yes≤ lies) refl))
 
   -- as many as it is long
   pub wide : length (bytes_of p s) ≡ p.len

@@ -1,7 +1,7 @@
 -- Finer positions: some recorders add digits to the minutes of a fix, by the extensions LAD and LOD.
 use Rattle.text.specs.Prelude.{ℕ, ◌+◌, ◌*◌, ◌^◌, ◌≤◌, ◌≡◌, code, Bool, true, false, List, length, ℤ, pos, Res, ok, no}
 use Rattle.text.specs.Prelude.{moved, guard, pick, number_of, place_of, ◌≤?◌, ◌=?◌, ◌∨?◌}
-use Rattle.text.specs.Prelude.{allDigits, firstOther, valueFrom}
+use Rattle.text.specs.Prelude.{all_digits_of, first_other_of, value_from}
 use Rattle.std.specs.Prelude.{neg_ℤ}
 use Rattle.text.specs.declared.refusal.MaybePlace.{MaybePlace}
 use Rattle.text.specs.declared.refusal.Refusal.TheVariants.{UnreadableNumber}
@@ -11,7 +11,7 @@ use Rattle.field.specs.declared.Mnemonic.{Mnemonic}
 use Rattle.raw_coord.specs.declared.{Compass.Compass, RawCoord.RawCoord}
 use Rattle.raw_coord.specs.declared.Compass.TheVariants.{North, South, East, West}
 use Rattle.b_record.specs.declared.BRecord.{BRecord}
-use Rattle.held.specs.Held.{lookUp}
+use Rattle.held.specs.Held.{look_up}
 use Rattle.held.specs.declared.tables.Tables.{Tables}
 use Rattle.finer.specs.declared.{FinerCoord.FinerCoord, FinerRead.FinerRead, FinerRefusal.FinerRefusal}
 use Rattle.finer.specs.declared.{FinerPositionRead.FinerPositionRead}
@@ -32,15 +32,15 @@ unfoldable pub thousandths : RawCoord → ℕ
 thousandths c = c.degrees * 60000 + c.minute_thousandths
 
 -- S and W are negative.
-unfoldable pub isNegative : Compass → Bool
-isNegative North = false
-isNegative South = true
-isNegative East = false
-isNegative West = true
+unfoldable pub is_negative_of : Compass → Bool
+is_negative_of North = false
+is_negative_of South = true
+is_negative_of East = false
+is_negative_of West = true
 
 -- So many parts of a minute in a direction.
 unfoldable pub toward : Compass → ℕ → ℤ
-toward sign m = pick (isNegative sign) (neg_ℤ (pos m)) (pos m)
+toward sign m = pick (is_negative_of sign) (neg_ℤ (pos m)) (pos m)
 
 -- Plain thousandths, with n = 0.
 unfoldable pub plainly : RawCoord → FinerCoord
@@ -51,8 +51,8 @@ unfoldable pub finely : ℕ → ℕ → RawCoord → FinerCoord
 finely n d c = record { value = toward c.sign (thousandths c * 10 ^ n + d); n = n }
 
 -- Every byte must be a digit, and a sign is none: their value, or 3 at the first byte that is not.
-unfoldable pub readPlain : List ℕ → Res ℕ
-readPlain s = guard (allDigits s) (UnreadableNumber (firstOther s)) (ok (valueFrom 0 s))
+unfoldable pub read_plain_of : List ℕ → Res ℕ
+read_plain_of s = guard (all_digits_of s) (UnreadableNumber (first_other_of s)) (ok (value_from 0 s))
 
 -- What the second answers of the value that is found or read; a refusal stands.
 unfoldable pub after : {A : Type 0} → Res A → (A → FinerRead) → FinerRead
@@ -66,11 +66,11 @@ narrow false r = FinerRead.Refused FinerRefusal.TooWide
 
 -- A coordinate with the digits that lookup found: its own refusal; 20 for a width over 5; 3 for a byte that is not a
 -- digit, the place counted from the line's start.
-unfoldable pub readFiner : Res Part → RawCoord → List ℕ → FinerRead
-readFiner found c s =
+unfoldable pub read_finer : Res Part → RawCoord → List ℕ → FinerRead
+read_finer found c s =
     after found (λ p.
     narrow (p.len ≤? 5)
-    (after (moved p.start (readPlain (bytes_of p s))) (λ d.
+    (after (moved p.start (read_plain_of (bytes_of p s))) (λ d.
     FinerRead.Ok (finely p.len d c))))
 
 -- ---- a position
@@ -83,36 +83,36 @@ both (FinerRead.Ok lat) (FinerRead.Ok lon) =
     FinerPositionRead.Ok (record { lat = record { 0 = lat }; lon = record { 0 = lon } })
 
 -- Lookup gives 15.
-unfoldable pub isUndefined : Res Part → Bool
-isUndefined (ok p) = false
-isUndefined (no n) = number_of n =? 15
+unfoldable pub is_undefined_of : Res Part → Bool
+is_undefined_of (ok p) = false
+is_undefined_of (no n) = number_of n =? 15
 
 -- A position with what lookup gives for LAD and for LOD: where it is 15 for either, plain thousandths of both, before
 -- any other test.
-unfoldable pub positionBy : Res Part → Res Part → RawCoord → RawCoord → List ℕ → FinerPositionRead
-positionBy lad lod lat lon s =
-    pick (isUndefined lad ∨? isUndefined lod)
+unfoldable pub position_by_of : Res Part → Res Part → RawCoord → RawCoord → List ℕ → FinerPositionRead
+position_by_of lad lod lat lon s =
+    pick (is_undefined_of lad ∨? is_undefined_of lod)
     (both (FinerRead.Ok (plainly lat)) (FinerRead.Ok (plainly lon)))
-    (both (readFiner lad lat s) (readFiner lod lon s))
+    (both (read_finer lad lat s) (read_finer lod lon s))
 
 -- The finer position of a fix beside its line, at which t is in force: LAD and LOD are looked up in the table of I
 -- lines, behind the 35 columns that every B line has.
-unfoldable pub finerPosition : BRecord → Tables → List ℕ → FinerPositionRead
-finerPosition fix t s =
-    positionBy (lookUp 35 fix.rest t.i LAD s) (lookUp 35 fix.rest t.i LOD s)
+unfoldable pub finer_position : BRecord → Tables → List ℕ → FinerPositionRead
+finer_position fix t s =
+    position_by_of (look_up 35 fix.rest t.i LAD s) (look_up 35 fix.rest t.i LOD s)
     fix.pos.lat.0 fix.pos.lon.0 s
 
 -- ---- refusals
 
 -- 20 for a width over 5; the others have the papers' numbers.
-abbrev pub finerNumber : FinerRefusal → ℕ
-finerNumber (FinerRefusal.Read n) = number_of n
-finerNumber FinerRefusal.TooWide = 20
+abbrev pub finer_number : FinerRefusal → ℕ
+finer_number (FinerRefusal.Read n) = number_of n
+finer_number FinerRefusal.TooWide = 20
 
 -- The place that 3 carries; no other has one.
-abbrev pub finerPlace : FinerRefusal → MaybePlace
-finerPlace (FinerRefusal.Read n) = place_of n
-finerPlace FinerRefusal.TooWide = MaybePlace.Missing
+abbrev pub finer_place : FinerRefusal → MaybePlace
+finer_place (FinerRefusal.Read n) = place_of n
+finer_place FinerRefusal.TooWide = MaybePlace.Missing
 
 -- ---- what the code says by the way
 
@@ -120,6 +120,6 @@ finerPlace FinerRefusal.TooWide = MaybePlace.Missing
 abbrev pub Lies : Res Part → List ℕ → Type 0
 Lies found s = (p : Part) → found ≡ ok p → p.start + p.len ≤ length s
 
-abbrev pub digitsRes : DigitsRead → Res ℕ
-digitsRes (DigitsRead.Ok v) = ok v
-digitsRes (DigitsRead.Refused n) = no n
+abbrev pub digits_res : DigitsRead → Res ℕ
+digits_res (DigitsRead.Ok v) = ok v
+digits_res (DigitsRead.Refused n) = no n

@@ -2,12 +2,12 @@
 // extensions LAD and LOD.
 ghost use Rattle.std.specs.Prelude.{◌≡◌, ◌^◌, ◌≤◌, ◌<◌, length};
 ghost use Rattle.text.specs.Res.{◌∨?◌};
-ghost use Rattle.text.specs.Number.{isDigit};
-ghost use Rattle.part.specs.Part.{foundRes};
-ghost use Rattle.finer.specs.Finer.{thousandths as Finer·thousandths, isNegative, toward as Finer·toward};
-ghost use Rattle.finer.specs.Finer.{finely as Finer·finely, readPlain, readFiner, both as Finer·both};
-ghost use Rattle.finer.specs.Finer.{isUndefined, positionBy, finerPosition, finerNumber, finerPlace};
-ghost use Rattle.finer.specs.Finer.{digitsRes, Lies};
+ghost use Rattle.text.specs.Number.{is_digit_of};
+ghost use Rattle.part.specs.Part.{found_res};
+ghost use Rattle.finer.specs.Finer.{thousandths as Finer·thousandths, is_negative_of, toward as Finer·toward};
+ghost use Rattle.finer.specs.Finer.{finely as Finer·finely, read_plain_of, read_finer, both as Finer·both};
+ghost use Rattle.finer.specs.Finer.{is_undefined_of, position_by_of, finer_position, finer_number, finer_place};
+ghost use Rattle.finer.specs.Finer.{digits_res, Lies};
 
 use b_record::BRecord;
 use field::Mnemonic;
@@ -18,28 +18,28 @@ use raw_coord::{Compass, RawCoord};
 use text::refusal::{MaybePlace, Refusal};
 
 // A coordinate in whole 10^-(3+n) minutes, negative in the south and the west.
-#[derive(Drop)]
+#[derive(Clone, Copy)]
 pub struct FinerCoord {
     pub value: i64,
     pub n: u8,
 }
 
 // No place that wants a longitude takes it.
-#[derive(Drop)]
+#[derive(Clone, Copy)]
 pub struct FinerLatitude(pub FinerCoord);
 
 // No place that wants a latitude takes it.
-#[derive(Drop)]
+#[derive(Clone, Copy)]
 pub struct FinerLongitude(pub FinerCoord);
 
 // Each with its own n.
-#[derive(Drop)]
+#[derive(Clone, Copy)]
 pub struct FinerPosition {
     pub lat: FinerLatitude,
     pub lon: FinerLongitude,
 }
 
-#[derive(Drop)]
+#[derive(Clone, Copy)]
 pub enum FinerRefusal {
     // As lookup gives it, or a byte that is not a digit.
     Read(Refusal),
@@ -47,21 +47,21 @@ pub enum FinerRefusal {
     TooWide,
 }
 
-#[derive(Drop)]
+#[derive(Clone, Copy)]
 pub enum FinerPositionRead {
     Ok(FinerPosition),
     Refused(FinerRefusal),
 }
 
 // One of its coordinates, or the refusal.
-#[derive(Drop)]
+#[derive(Clone, Copy)]
 enum FinerRead {
     Ok(FinerCoord),
     Refused(FinerRefusal),
 }
 
 // A number of digits, or the refusal.
-#[derive(Drop)]
+#[derive(Clone, Copy)]
 enum DigitsRead {
     Ok(u64),
     Refused(Refusal),
@@ -70,7 +70,7 @@ enum DigitsRead {
 impl FinerRefusal {
     // The number that the papers give it.
     pub fn number(self) -> u8
-        ensures { result ≡ finerNumber self }
+        ensures { result ≡ finer_number self }
     {
         match self {
             FinerRefusal::Read(no) => no.number(),
@@ -80,7 +80,7 @@ impl FinerRefusal {
 
     // The place of the byte to look at, counted from the line's start, which an unreadable number alone has.
     pub fn place(self) -> MaybePlace
-        ensures { result ≡ finerPlace self }
+        ensures { result ≡ finer_place self }
     {
         match self {
             FinerRefusal::Read(no) => no.place(),
@@ -90,7 +90,7 @@ impl FinerRefusal {
 }
 
 fn is_digit(b: u8) -> bool
-    ensures { result ≡ isDigit b }
+    ensures { result ≡ is_digit_of b }
 {
     if b < b'0' {
         return false;
@@ -101,7 +101,7 @@ fn is_digit(b: u8) -> bool
 // Digits alone, and no sign.
 fn read_plain(text: &[u8]) -> DigitsRead
     requires { length text.now ≤ 5 }
-    ensures { digitsRes result ≡ readPlain text.now }
+    ensures { digits_res result ≡ read_plain_of text.now }
 {
     let mut value: u64 = 0;
     let mut i = 0;
@@ -139,7 +139,7 @@ fn thousandths(c: RawCoord) -> u64
 
 // South and west.
 fn is_negative(sign: Compass) -> bool
-    ensures { result ≡ isNegative sign }
+    ensures { result ≡ is_negative_of sign }
 {
     match sign {
         Compass::North => false,
@@ -175,8 +175,8 @@ fn finely(n: usize, d: u64, c: RawCoord) -> FinerCoord
 
 // A coordinate with the digits that were found.
 fn finer(found: Found, c: RawCoord, line: &[u8]) -> FinerRead
-    requires { Lies (foundRes found) line.now }
-    ensures { result ≡ readFiner (foundRes found) c line.now }
+    requires { Lies (found_res found) line.now }
+    ensures { result ≡ read_finer (found_res found) c line.now }
 {
     match found {
         Found::Refused(no) => FinerRead::Refused(FinerRefusal::Read(no)),
@@ -212,7 +212,7 @@ fn both(lat: FinerRead, lon: FinerRead) -> FinerPositionRead
 
 // Lookup gave 15.
 fn is_undefined(found: Found) -> bool
-    ensures { result ≡ isUndefined (foundRes found) }
+    ensures { result ≡ is_undefined_of (found_res found) }
 {
     match found {
         Found::At(_) => false,
@@ -222,7 +222,7 @@ fn is_undefined(found: Found) -> bool
 
 // It gave 15 for either name.
 fn is_plain(lad: Found, lod: Found) -> bool
-    ensures { result ≡ (isUndefined (foundRes lad) ∨? isUndefined (foundRes lod)) }
+    ensures { result ≡ (is_undefined_of (found_res lad) ∨? is_undefined_of (found_res lod)) }
 {
     if is_undefined(lad) {
         return true;
@@ -232,8 +232,8 @@ fn is_plain(lad: Found, lod: Found) -> bool
 
 // With what lookup gave for LAD and for LOD. Plain thousandths are a coordinate with no digits more.
 fn position_by(lad: Found, lod: Found, pos: RawPosition, line: &[u8]) -> FinerPositionRead
-    requires { Lies (foundRes lad) line.now × Lies (foundRes lod) line.now }
-    ensures { result ≡ positionBy (foundRes lad) (foundRes lod) pos.lat.0 pos.lon.0 line.now }
+    requires { Lies (found_res lad) line.now × Lies (found_res lod) line.now }
+    ensures { result ≡ position_by_of (found_res lad) (found_res lod) pos.lat.0 pos.lon.0 line.now }
 {
     let lat = pos.lat.0;
     let lon = pos.lon.0;
@@ -247,7 +247,7 @@ fn position_by(lad: Found, lod: Found, pos: RawPosition, line: &[u8]) -> FinerPo
 impl FinerPosition {
     // The finer position of a fix beside its line, at which these tables are in force.
     pub fn of(fix: BRecord, tables: Tables, line: &[u8]) -> FinerPositionRead
-        ensures { result ≡ finerPosition fix tables line.now }
+        ensures { result ≡ finer_position fix tables line.now }
     {
         let held = tables.i;
         let rest = fix.rest;

@@ -2,9 +2,9 @@
 use Rattle.text.specs.Prelude.{◌≡◌}
 use Rattle.text.proofs.Prelude.{refl}
 use Rattle.text.proofs.Answers.{made}
-use Rattle.g_record.specs.GRecord.{gRes}
+use Rattle.g_record.specs.GRecord.{g_res}
 use Rattle.g_record.specs.declared.GRead.{GRead}
 
-pub g-undone : (r : GRead) → made GRead.Ok GRead.Refused (gRes r) ≡ r
-g-undone (GRead.Ok v) = refl
-g-undone (GRead.Refused n) = refl
+pub g_undone : (r : GRead) → made GRead.Ok GRead.Refused (g_res r) ≡ r
+g_undone (GRead.Ok v) = refl
+g_undone (GRead.Refused n) = refl

@@ -1,9 +1,9 @@
 // G lines, as src/records/g_record.rs has them.
 ghost use Rattle.std.specs.Prelude.{◌≡◌};
-ghost use Rattle.part.specs.Part.{findPart, shown, Shows};
+ghost use Rattle.part.specs.Part.{find_part, shown, Shows};
 ghost use Rattle.put.specs.Put.{Wrote};
 ghost use Rattle.print.specs.Print.{Prints};
-ghost use Rattle.g_record.specs.GRecord.{readG, gPiece, gText, gRes};
+ghost use Rattle.g_record.specs.GRecord.{read_g, g_piece, g_text, g_res};
 
 use part::{Found, Part};
 use print::printed::Printed;
@@ -12,12 +12,12 @@ use text::line::begins;
 use text::refusal::Refusal;
 
 // Security: what stands there is the maker's own, and no judgement of it.
-#[derive(Drop)]
+#[derive(Clone, Copy)]
 pub struct GRecord {
     pub data: Part,
 }
 
-#[derive(Drop)]
+#[derive(Clone, Copy)]
 pub enum GRead {
     Ok(GRecord),
     Refused(Refusal),
@@ -26,7 +26,7 @@ pub enum GRead {
 impl GRecord {
     // Reads a G line.
     pub fn parse(line: &[u8]) -> GRead
-        ensures { gRes result ≡ readG line.now }
+        ensures { g_res result ≡ read_g line.now }
     {
         if !begins(b'G', line) {
             return GRead::Refused(Refusal::Syntax);
@@ -38,7 +38,7 @@ impl GRecord {
 
     // What stands behind the letter, as a part of the caller's own line.
     pub fn data(self, line: &[u8]) -> &[u8]
-        ensures { Shows line.entry (shown (findPart self.«data» line.now)) result }
+        ensures { Shows line.entry (shown (find_part self.«data» line.now)) result }
     {
         let data = self.data;
         data.view(line)
@@ -47,7 +47,7 @@ impl GRecord {
     // The text as a piece of a larger one, from a place on: bytes that are too short cut it, and what lies outside the
     // line is left out. `print` is the printer.
     pub fn put_piece(self, buf: &mut [u8], at: usize, line: &[u8]) -> usize
-        ensures { Wrote buf.old at (gPiece self line.now) buf.new result }
+        ensures { Wrote buf.old at (g_piece self line.now) buf.new result }
     {
         let data = self.data;
         let at_data = put_byte(buf, at, b'G');
@@ -56,7 +56,7 @@ impl GRecord {
 
     // Prints the record beside its line.
     pub fn print(self, line: &[u8], buf: &mut [u8]) -> Printed
-        ensures { Prints (gText self line.now) buf.old buf.new result }
+        ensures { Prints (g_text self line.now) buf.old buf.new result }
     {
         let data = self.data;
         match data.find(line) {

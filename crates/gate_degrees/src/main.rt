@@ -3,7 +3,7 @@
 use coord::{RawLatitude, RawLongitude};
 use raw_coord::{Compass, RawCoord};
 
-#[derive(Drop)]
+#[derive(Clone, Copy)]
 struct Sums {
     a: u64,
     b: u64,

@@ -6,7 +6,7 @@ mod edges;
 use print::number::{put_i8, put_i16, put_nat};
 use text::number::{I8Read, I16Read, U8Read, U16Read, read_i8, read_i16, read_u8, read_u16};
 
-#[derive(Drop)]
+#[derive(Clone, Copy)]
 struct Sums {
     a: u64,
     b: u64,

@@ -2,9 +2,9 @@
 use Rattle.text.specs.Prelude.{◌≡◌}
 use Rattle.text.proofs.Prelude.{refl}
 use Rattle.text.proofs.Answers.{made}
-use Rattle.h_record.specs.HRecord.{hRes}
+use Rattle.h_record.specs.HRecord.{h_res}
 use Rattle.h_record.specs.declared.HRead.{HRead}
 
-pub h-undone : (r : HRead) → made HRead.Ok HRead.Refused (hRes r) ≡ r
-h-undone (HRead.Ok v) = refl
-h-undone (HRead.Refused n) = refl
+pub h_undone : (r : HRead) → made HRead.Ok HRead.Refused (h_res r) ≡ r
+h_undone (HRead.Ok v) = refl
+h_undone (HRead.Refused n) = refl

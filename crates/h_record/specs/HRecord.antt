@@ -1,32 +1,32 @@
 -- H lines: headers.
 use Rattle.text.specs.Prelude.{ℕ, suc, ◌+◌, ◌-◌, ◌/◌, ◌%◌, code, List, [], ◌∷◌, ◌++◌, length, drop, Res, ok, no, bind}
 use Rattle.text.specs.Prelude.{guard, pick, ◌≤?◌, ◌=?◌, byte, cut}
-use Rattle.part.specs.Part.{restFrom, partText, maybeText, partBytes, maybeBytes}
+use Rattle.part.specs.Part.{rest_from, part_text, maybe_text, part_bytes, maybe_bytes}
 use Rattle.text.specs.declared.refusal.Refusal.TheVariants.{Syntax}
 use Rattle.part.specs.declared.MaybePart.{MaybePart}
-use Rattle.field.specs.Field.{asciiIn}
+use Rattle.field.specs.Field.{ascii_in}
 use Rattle.h_record.specs.declared.{DataSource.DataSource, HRecord.HRecord, HRead.HRead}
 use Rattle.h_record.specs.declared.DataSource.TheVariants.{FVU, OfficialObserver, Pilot, Unrecognized}
 
 -- The byte of a source.
-unfoldable pub sourceByte : DataSource → ℕ
-sourceByte FVU = code "F"
-sourceByte OfficialObserver = code "O"
-sourceByte Pilot = code "P"
-sourceByte (Unrecognized b) = b
+unfoldable pub source_byte : DataSource → ℕ
+source_byte FVU = code "F"
+source_byte OfficialObserver = code "O"
+source_byte Pilot = code "P"
+source_byte (Unrecognized b) = b
 
 -- The source of a byte.
 unfoldable pub source_of : ℕ → DataSource
 source_of b =
-    pick (b =? sourceByte FVU) FVU
-    (pick (b =? sourceByte OfficialObserver) OfficialObserver
-    (pick (b =? sourceByte Pilot) Pilot
+    pick (b =? source_byte FVU) FVU
+    (pick (b =? source_byte OfficialObserver) OfficialObserver
+    (pick (b =? source_byte Pilot) Pilot
     (Unrecognized b)))
 
 -- The place of the first colon, or the length where there is none.
-unfoldable pub colonIn : List ℕ → ℕ
-colonIn [] = 0
-colonIn (b ∷ s) = pick (b =? code ":") 0 (suc (colonIn s))
+unfoldable pub colon_in : List ℕ → ℕ
+colon_in [] = 0
+colon_in (b ∷ s) = pick (b =? code ":") 0 (suc (colon_in s))
 
 -- A first colon from column 5 on, at c, parts name and data; with none there is no name.
 unfoldable pub named : List ℕ → ℕ → HRecord
@@ -36,55 +36,55 @@ named s c =
       data_source = source_of (byte 1 s);
       mnemonic = record { start = 2; len = 3 };
       friendly_name = MaybePart.Missing;
-      «data» = restFrom 5 s;
+      «data» = rest_from 5 s;
     })
     (record {
       data_source = source_of (byte 1 s);
       mnemonic = record { start = 2; len = 3 };
       friendly_name = MaybePart.At (record { start = 5; len = c - 5 });
-      «data» = restFrom (c + 1) s;
+      «data» = rest_from (c + 1) s;
     })
 
 -- Under 6 bytes 1; a first byte other than H 1; 0-5 ASCII (2); source, mnemonic 2-5, name and data.
-unfoldable pub readH : List ℕ → Res HRecord
-readH s =
+unfoldable pub read_h : List ℕ → Res HRecord
+read_h s =
     guard (6 ≤? length s) Syntax
     (guard (byte 0 s =? code "H") Syntax
-    (asciiIn (cut 0 5 s)
-    (ok (named s (5 + colonIn (drop 5 s))))))
+    (ascii_in (cut 0 5 s)
+    (ok (named s (5 + colon_in (drop 5 s))))))
 
 -- A byte, or from 128 on its two bytes in UTF-8.
-unfoldable pub charText : ℕ → List ℕ
-charText b = pick (b ≤? 127) (b ∷ []) (((192 + b / 64) ∷ []) ++ ((128 + b % 64) ∷ []))
+unfoldable pub char_text : ℕ → List ℕ
+char_text b = pick (b ≤? 127) (b ∷ []) (((192 + b / 64) ∷ []) ++ ((128 + b % 64) ∷ []))
 
 -- A name with its colon; nothing where there is no name.
-unfoldable pub nameText : MaybePart → List ℕ → List ℕ
-nameText MaybePart.Missing t = []
-nameText (MaybePart.At p) t = t ++ (code ":" ∷ [])
+unfoldable pub name_text : MaybePart → List ℕ → List ℕ
+name_text MaybePart.Missing t = []
+name_text (MaybePart.At p) t = t ++ (code ":" ∷ [])
 
 -- The name with its colon, and the data.
-unfoldable pub dataText : HRecord → List ℕ → List ℕ → List ℕ
-dataText r n d = nameText r.friendly_name n ++ d
+unfoldable pub data_text : HRecord → List ℕ → List ℕ → List ℕ
+data_text r n d = name_text r.friendly_name n ++ d
 
 -- The letter, source, mnemonic, name and data.
-unfoldable pub hBody : HRecord → List ℕ → List ℕ → List ℕ → List ℕ
-hBody r m n d = (code "H" ∷ []) ++ (charText (sourceByte r.data_source) ++ (m ++ dataText r n d))
+unfoldable pub h_body : HRecord → List ℕ → List ℕ → List ℕ → List ℕ
+h_body r m n d = (code "H" ∷ []) ++ (char_text (source_byte r.data_source) ++ (m ++ data_text r n d))
 
 -- The same with the parts that the line has; one that lies outside is left out.
-abbrev pub hPiece : HRecord → List ℕ → List ℕ
-hPiece r s =
-    hBody r (partBytes r.mnemonic s) (maybeBytes r.friendly_name s) (partBytes r.«data» s)
+abbrev pub h_piece : HRecord → List ℕ → List ℕ
+h_piece r s =
+    h_body r (part_bytes r.mnemonic s) (maybe_bytes r.friendly_name s) (part_bytes r.«data» s)
 
 -- The text of a record beside its line; 9 where a part lies outside.
-unfoldable pub hText : HRecord → List ℕ → Res (List ℕ)
-hText r s =
-    bind (partText r.mnemonic s) (λ m.
-    bind (maybeText r.friendly_name s) (λ n.
-    bind (partText r.«data» s) (λ d.
-    ok (hBody r m n d))))
+unfoldable pub h_text : HRecord → List ℕ → Res (List ℕ)
+h_text r s =
+    bind (part_text r.mnemonic s) (λ m.
+    bind (maybe_text r.friendly_name s) (λ n.
+    bind (part_text r.«data» s) (λ d.
+    ok (h_body r m n d))))
 
 -- ---- the answers of the code
 
-abbrev pub hRes : HRead → Res HRecord
-hRes (HRead.Ok v) = ok v
-hRes (HRead.Refused n) = no n
+abbrev pub h_res : HRead → Res HRecord
+h_res (HRead.Ok v) = ok v
+h_res (HRead.Refused n) = no n

@@ -1,10 +1,10 @@
 // H lines, as src/records/h_record.rs has them.
 ghost use Rattle.std.specs.Prelude.{◌≡◌, ◌+◌, ◌≤◌, length, drop};
-ghost use Rattle.part.specs.Part.{findPart, findMaybe, partBytes, maybeBytes, shown, Shows};
+ghost use Rattle.part.specs.Part.{find_part, find_maybe, part_bytes, maybe_bytes, shown, Shows};
 ghost use Rattle.put.specs.Put.{Wrote};
 ghost use Rattle.print.specs.Print.{Prints};
-ghost use Rattle.h_record.specs.HRecord.{sourceByte, source_of, colonIn, readH, charText, nameText, dataText};
-ghost use Rattle.h_record.specs.HRecord.{hPiece, hText, hRes};
+ghost use Rattle.h_record.specs.HRecord.{source_byte, source_of, colon_in, read_h, char_text, name_text, data_text};
+ghost use Rattle.h_record.specs.HRecord.{h_piece, h_text, h_res};
 
 use field::is_ascii;
 use part::{Found, MaybePart, Part};
@@ -12,7 +12,7 @@ use print::printed::Printed;
 use put::{put_byte, put_part};
 use text::refusal::Refusal;
 
-#[derive(Drop)]
+#[derive(Clone, Copy)]
 pub enum DataSource {
     FVU,
     OfficialObserver,
@@ -20,7 +20,7 @@ pub enum DataSource {
     Unrecognized(u8),
 }
 
-#[derive(Drop)]
+#[derive(Clone, Copy)]
 pub struct HRecord {
     pub mnemonic: Part,
     pub friendly_name: MaybePart,
@@ -28,7 +28,7 @@ pub struct HRecord {
     pub data_source: DataSource,
 }
 
-#[derive(Drop)]
+#[derive(Clone, Copy)]
 pub enum HRead {
     Ok(HRecord),
     Refused(Refusal),
@@ -49,7 +49,7 @@ impl DataSource {
 
     // The byte of a source.
     pub fn to_byte(self) -> u8
-        ensures { result ≡ sourceByte self }
+        ensures { result ≡ source_byte self }
     {
         match self {
             DataSource::FVU => b'F',
@@ -63,7 +63,7 @@ impl DataSource {
 // The column of the first colon from column 5 on, or the line's length where there is none.
 fn colon(line: &[u8]) -> usize
     requires { 5 ≤ length line.now }
-    ensures { result ≡ 5 + colonIn (drop 5 line.now) }
+    ensures { result ≡ 5 + colon_in (drop 5 line.now) }
 {
     let mut i = 5;
     while i < line.len() {
@@ -77,7 +77,7 @@ fn colon(line: &[u8]) -> usize
 
 // A character as Rust's `char` prints: a source of 128 or more, built by hand, takes two bytes.
 fn put_char(buf: &mut [u8], at: usize, b: u8) -> usize
-    ensures { Wrote buf.old at (charText b) buf.new result }
+    ensures { Wrote buf.old at (char_text b) buf.new result }
 {
     if b <= 127 {
         return put_byte(buf, at, b);
@@ -88,7 +88,7 @@ fn put_char(buf: &mut [u8], at: usize, b: u8) -> usize
 
 // A name with its colon; nothing where there is no name.
 fn put_name(buf: &mut [u8], at: usize, name: MaybePart, line: &[u8]) -> usize
-    ensures { Wrote buf.old at (nameText name (maybeBytes name line.now)) buf.new
+    ensures { Wrote buf.old at (name_text name (maybe_bytes name line.now)) buf.new
         result }
 {
     match name {
@@ -103,7 +103,7 @@ fn put_name(buf: &mut [u8], at: usize, name: MaybePart, line: &[u8]) -> usize
 impl HRecord {
     // Reads an H line.
     pub fn parse(line: &[u8]) -> HRead
-        ensures { hRes result ≡ readH line.now }
+        ensures { h_res result ≡ read_h line.now }
     {
         if line.len() < 6 {
             return HRead::Refused(Refusal::Syntax);
@@ -138,7 +138,7 @@ impl HRecord {
 
     // The mnemonic, the name and the data, each as a part of the caller's own line.
     pub fn mnemonic(self, line: &[u8]) -> &[u8]
-        ensures { Shows line.entry (shown (findPart self.mnemonic line.now)) result }
+        ensures { Shows line.entry (shown (find_part self.mnemonic line.now)) result }
     {
         let mnemonic = self.mnemonic;
         mnemonic.view(line)
@@ -146,7 +146,7 @@ impl HRecord {
 
     // The name, as a part of the caller's own line.
     pub fn friendly_name(self, line: &[u8]) -> &[u8]
-        ensures { Shows line.entry (shown (findMaybe self.friendly_name line.now)) result }
+        ensures { Shows line.entry (shown (find_maybe self.friendly_name line.now)) result }
     {
         let name = self.friendly_name;
         name.view(line)
@@ -154,7 +154,7 @@ impl HRecord {
 
     // The data, as a part of the caller's own line.
     pub fn data(self, line: &[u8]) -> &[u8]
-        ensures { Shows line.entry (shown (findPart self.«data» line.now)) result }
+        ensures { Shows line.entry (shown (find_part self.«data» line.now)) result }
     {
         let data = self.data;
         data.view(line)
@@ -163,8 +163,8 @@ impl HRecord {
     // The name with its colon, and the data.
     fn put_data(self, buf: &mut [u8], at: usize, line: &[u8]) -> usize
         ensures { Wrote buf.old
-            at (dataText self (maybeBytes self.friendly_name line.now)
-            (partBytes self.«data» line.now)) buf.new result }
+            at (data_text self (maybe_bytes self.friendly_name line.now)
+            (part_bytes self.«data» line.now)) buf.new result }
     {
         let name = self.friendly_name;
         let data = self.data;
@@ -175,7 +175,7 @@ impl HRecord {
     // The text as a piece of a larger one, from a place on: bytes that are too short cut it, and what lies outside the
     // line is left out. `print` is the printer.
     pub fn put_piece(self, buf: &mut [u8], at: usize, line: &[u8]) -> usize
-        ensures { Wrote buf.old at (hPiece self line.now) buf.new result }
+        ensures { Wrote buf.old at (h_piece self line.now) buf.new result }
     {
         let mnemonic = self.mnemonic;
         let source = self.data_source;
@@ -187,7 +187,7 @@ impl HRecord {
 
     // Prints the record beside its line.
     pub fn print(self, line: &[u8], buf: &mut [u8]) -> Printed
-        ensures { Prints (hText self line.now) buf.old buf.new result }
+        ensures { Prints (h_text self line.now) buf.old buf.new result }
     {
         let mnemonic = self.mnemonic;
         let name = self.friendly_name;

@@ -2,10 +2,10 @@
 pub mod tables;
 
 ghost use Rattle.std.specs.Prelude.{◌≡◌, ◌≤◌};
-ghost use Rattle.part.specs.Part.{foundRes, shown, Shows};
-ghost use Rattle.extension.specs.Extension.{extensionRes};
-ghost use Rattle.table.specs.Table.{readTable, defsOf};
-ghost use Rattle.held.specs.Held.{noTable, setBy, heldAfter, same_name, firstNamed, define, lookUp};
+ghost use Rattle.part.specs.Part.{found_res, shown, Shows};
+ghost use Rattle.extension.specs.Extension.{extension_res};
+ghost use Rattle.table.specs.Table.{read_table, defs_of};
+ghost use Rattle.held.specs.Held.{no_table, set_by_of, held_after, same_name, first_named_of, define, look_up};
 
 use extension::ExtensionRead;
 use field::Mnemonic;
@@ -15,14 +15,14 @@ use text::line::begins;
 use text::refusal::Refusal;
 
 // No line of the letter so far; the last one was refused; or its table is in force.
-#[derive(Drop)]
+#[derive(Clone, Copy)]
 pub enum Slot {
     Never,
     Spoiled,
     Set,
 }
 
-#[derive(Drop)]
+#[derive(Clone, Copy)]
 pub struct Held {
     pub table: Table,
     pub slot: Slot,
@@ -42,7 +42,7 @@ fn same_name(a: Mnemonic, b: Mnemonic) -> bool
 
 fn first_named(table: Table, name: Mnemonic) -> ExtensionRead
     requires { table.count ≤ 99 }
-    ensures { extensionRes result ≡ firstNamed name (defsOf table) }
+    ensures { extension_res result ≡ first_named_of name (defs_of table) }
 {
     let n = table.count as usize;
     let mut i = 0;
@@ -60,7 +60,7 @@ fn first_named(table: Table, name: Mnemonic) -> ExtensionRead
 impl Held {
     // 99 empty slots, and no line of the letter so far.
     pub fn new() -> Held
-        ensures { result ≡ noTable }
+        ensures { result ≡ no_table }
     {
         let table = Table::new();
         Held {
@@ -71,7 +71,7 @@ impl Held {
 
     // What a line of the letter leaves: its table, or where it is refused none, and the mark of that.
     pub fn set_by(line: &[u8]) -> Held
-        ensures { result ≡ setBy (readTable line.now) }
+        ensures { result ≡ set_by_of (read_table line.now) }
     {
         let read = Table::parse(line);
         let table = read.table;
@@ -90,7 +90,7 @@ impl Held {
 
     // What is held after a line: one that begins with the letter sets or spoils the table, and no other touches it.
     pub fn after(self, letter: u8, line: &[u8]) -> Held
-        ensures { result ≡ heldAfter letter self line.now }
+        ensures { result ≡ held_after letter self line.now }
     {
         if begins(letter, line) {
             return Held::set_by(line);
@@ -100,7 +100,7 @@ impl Held {
 
     // The definition in force of that name.
     pub fn define(self, name: Mnemonic) -> ExtensionRead
-        ensures { extensionRes result ≡ define self name }
+        ensures { extension_res result ≡ define self name }
     {
         let slot = self.slot;
         let table = self.table;
@@ -118,7 +118,7 @@ impl Held {
 
     // Where the value of that name stands in a line with `base` fixed columns and this rest.
     pub fn find(self, base: usize, rest: Part, name: Mnemonic, line: &[u8]) -> Found
-        ensures { foundRes result ≡ lookUp base rest self name line.now }
+        ensures { found_res result ≡ look_up base rest self name line.now }
     {
         match self.define(name) {
             ExtensionRead::Ok(extension) => extension.find(base, rest, line),
@@ -128,7 +128,7 @@ impl Held {
 
     // The value itself, as a part of the caller's own line.
     pub fn get(self, base: usize, rest: Part, name: Mnemonic, line: &[u8]) -> &[u8]
-        ensures { Shows line.entry (shown (lookUp base rest self name line.now)) result }
+        ensures { Shows line.entry (shown (look_up base rest self name line.now)) result }
     {
         match self.define(name) {
             ExtensionRead::Ok(extension) => extension.get_extension(base, rest, line),

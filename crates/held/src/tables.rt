@@ -1,11 +1,11 @@
 // The tables of a walk, one for each letter that sets one: I lines name columns of B lines, J lines those of K lines.
 ghost use Rattle.std.specs.Prelude.{◌≡◌};
-ghost use Rattle.held.specs.Tables.{noTables, tablesAfter};
+ghost use Rattle.held.specs.Tables.{no_tables, tables_after};
 
 use crate::Held;
 use text::line::begins;
 
-#[derive(Drop)]
+#[derive(Clone, Copy)]
 pub struct Tables {
     pub i: Held,
     pub j: Held,
@@ -14,7 +14,7 @@ pub struct Tables {
 impl Tables {
     // No table of either letter.
     pub fn new() -> Tables
-        ensures { result ≡ noTables }
+        ensures { result ≡ no_tables }
     {
         let i = Held::new();
         let j = Held::new();
@@ -23,7 +23,7 @@ impl Tables {
 
     // What is held after a line: I lines set or spoil the one table, J lines the other.
     pub fn after(self, line: &[u8]) -> Tables
-        ensures { result ≡ tablesAfter self line.now }
+        ensures { result ≡ tables_after self line.now }
     {
         if begins(b'I', line) {
             let set = Held::set_by(line);

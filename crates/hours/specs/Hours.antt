@@ -14,22 +14,22 @@ from zero h f = []
 from (suc k) h f = held (f h) ∷ from k (h + 1) f
 
 -- f of each hour 0 to 24.
-unfoldable pub byHour : (ℕ → Option ℕ) → Index
-byHour f = record { hours = from 25 0 f }
+unfoldable pub by_hour : (ℕ → Option ℕ) → Index
+by_hour f = record { hours = from 25 0 f }
 
 -- What any index holds for an hour; for one over 24 nothing.
-unfoldable pub heldFor : Index → ℕ → First
-heldFor i h = (get_or i.hours h (held none)).first
+unfoldable pub held_for : Index → ℕ → First
+held_for i h = (get_or i.hours h (held none)).first
 
 -- The index of no log.
 unfoldable pub nowhere : Index
 nowhere = record { hours = replicate 25 (held none) }
 
 -- It is no place.
-unfoldable pub isNowhere : First → Bool
-isNowhere First.Nowhere = true
-isNowhere (First.At p) = false
+unfoldable pub is_nowhere : First → Bool
+is_nowhere First.Nowhere = true
+is_nowhere (First.At p) = false
 
 -- An hour 0 to 24 for which an index holds no place.
 unfoldable pub lacks : Index → ℕ → Bool
-lacks i h = (h + 1 ≤? 25) ∧? isNowhere (heldFor i h)
+lacks i h = (h + 1 ≤? 25) ∧? is_nowhere (held_for i h)

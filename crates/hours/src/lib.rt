@@ -1,22 +1,22 @@
 // For each hour of a log the place of a fix, or none: the index, by itself.
 ghost use Rattle.std.specs.Prelude.{◌≡◌};
-ghost use Rattle.hours.specs.Hours.{nowhere, heldFor, lacks};
+ghost use Rattle.hours.specs.Hours.{nowhere, held_for, lacks};
 
 // The place of the first fix in an hour, or none.
-#[derive(Drop)]
+#[derive(Clone, Copy)]
 pub enum First {
     Nowhere,
     At(usize),
 }
 
 // An array holds structs, and no enums.
-#[derive(Drop)]
+#[derive(Clone, Copy)]
 pub struct Hour {
     pub first: First,
 }
 
 // For each hour 0 to 24.
-#[derive(Drop)]
+#[derive(Clone, Copy)]
 pub struct Index {
     pub hours: [Hour; 25],
 }
@@ -34,7 +34,7 @@ impl Index {
 
     // The place that it holds for an hour; for one over 24 none.
     pub fn first_in(self, hour: usize) -> First
-        ensures { result ≡ heldFor self hour }
+        ensures { result ≡ held_for self hour }
     {
         if hour < 25 {
             let held = self.hours[hour];

@@ -1,7 +1,7 @@
 // Totals of sheets joined in order, file by file, and at last the block of all.
 ghost use Rattle.std.specs.Prelude.{◌≡◌, length};
-ghost use Rattle.total.specs.Total.{totalIn, joinRes};
-ghost use Rattle.joins.specs.Halves.{halvesIn, notWhole, joinedOn};
+ghost use Rattle.total.specs.Total.{total_in, join_res};
+ghost use Rattle.joins.specs.Halves.{halves_in, not_whole, joined_on};
 
 use files::input::open;
 use files::output::write_all;
@@ -11,7 +11,7 @@ use sheet_text::put_all;
 use total::{Total, Verdict};
 
 // The total so far, and whether every sheet went into it.
-#[derive(Drop)]
+#[derive(Clone, Copy)]
 struct Halves {
     total: Total,
     whole: bool,
@@ -33,7 +33,7 @@ fn say_line(file: &[u8], line: u64, what: &[u8]) {
 
 // After a sheet that did not go in: a sentence was written, and there will be no block.
 fn without(before: Halves) -> Halves
-    ensures { halvesIn result ≡ notWhole (halvesIn before) }
+    ensures { halves_in result ≡ not_whole (halves_in before) }
 {
     let total = before.total;
     Halves {
@@ -44,7 +44,7 @@ fn without(before: Halves) -> Halves
 
 // After the total of one sheet more, whose logs come behind those before.
 fn after_total(before: Halves, file: &[u8], next: Total) -> Halves
-    ensures { halvesIn result ≡ joinedOn (halvesIn before) (joinRes (totalIn before.total) (totalIn next)) }
+    ensures { halves_in result ≡ joined_on (halves_in before) (join_res (total_in before.total) (total_in next)) }
 {
     let total = before.total;
     let joined = total.join(next);

@@ -1,10 +1,10 @@
 // K lines, as src/records/k_record.rs has them.
 ghost use Rattle.std.specs.Prelude.{◌≡◌};
-ghost use Rattle.part.specs.Part.{findPart, shown, Shows, foundRes};
-ghost use Rattle.extension.specs.Value.{findValue};
+ghost use Rattle.part.specs.Part.{find_part, shown, Shows, found_res};
+ghost use Rattle.extension.specs.Value.{find_value};
 ghost use Rattle.put.specs.Put.{Wrote};
 ghost use Rattle.print.specs.Print.{Prints};
-ghost use Rattle.k_record.specs.KRecord.{readK, kPiece, kText, kBook, kRes};
+ghost use Rattle.k_record.specs.KRecord.{read_k, k_piece, k_text, k_book, k_res};
 
 use extension::Extension;
 use field::is_ascii;
@@ -15,13 +15,13 @@ use text::refusal::Refusal;
 use time::{Time, TimeRead};
 
 // A time by default, and what the J line names behind it, as wind and temperature.
-#[derive(Drop)]
+#[derive(Clone, Copy)]
 pub struct KRecord {
     pub rest: Part,
     pub time: Time,
 }
 
-#[derive(Drop)]
+#[derive(Clone, Copy)]
 pub enum KRead {
     Ok(KRecord),
     Refused(Refusal),
@@ -32,7 +32,7 @@ impl KRecord {
 
     // Reads a K line of at least 7 ASCII bytes. (The Rust wants 8: docs/DIFFERENCES.md.)
     pub fn parse(line: &[u8]) -> KRead
-        ensures { kRes result ≡ readK line.now }
+        ensures { k_res result ≡ read_k line.now }
     {
         if line.len() < KRecord::BASE_LENGTH {
             return KRead::Refused(Refusal::Syntax);
@@ -54,7 +54,7 @@ impl KRecord {
 
     // The bytes after the fixed columns, as a part of the caller's own line.
     pub fn rest(self, line: &[u8]) -> &[u8]
-        ensures { Shows line.entry (shown (findPart self.rest line.now)) result }
+        ensures { Shows line.entry (shown (find_part self.rest line.now)) result }
     {
         let rest = self.rest;
         rest.view(line)
@@ -62,7 +62,7 @@ impl KRecord {
 
     // Where the value of an extension stands in the line.
     pub fn find_extension(self, extension: Extension, line: &[u8]) -> Found
-        ensures { foundRes result ≡ findValue 7 self.rest extension line.now }
+        ensures { found_res result ≡ find_value 7 self.rest extension line.now }
     {
         let rest = self.rest;
         extension.find(KRecord::BASE_LENGTH, rest, line)
@@ -70,7 +70,7 @@ impl KRecord {
 
     // The value itself, as a part of the caller's own line.
     pub fn get_extension(self, extension: Extension, line: &[u8]) -> &[u8]
-        ensures { Shows line.entry (shown (findValue 7 self.rest extension line.now)) result }
+        ensures { Shows line.entry (shown (find_value 7 self.rest extension line.now)) result }
     {
         let rest = self.rest;
         extension.get_extension(KRecord::BASE_LENGTH, rest, line)
@@ -78,7 +78,7 @@ impl KRecord {
 
     // Its time is by the book.
     pub fn by_the_book(self) -> bool
-        ensures { result ≡ kBook self }
+        ensures { result ≡ k_book self }
     {
         let time = self.time;
         time.by_the_book()
@@ -87,7 +87,7 @@ impl KRecord {
     // The text as a piece of a larger one, from a place on: bytes that are too short cut it, and what lies outside the
     // line is left out. `print` is the printer.
     pub fn put_piece(self, buf: &mut [u8], at: usize, line: &[u8]) -> usize
-        ensures { Wrote buf.old at (kPiece self line.now) buf.new result }
+        ensures { Wrote buf.old at (k_piece self line.now) buf.new result }
     {
         let time = self.time;
         let rest = self.rest;
@@ -98,7 +98,7 @@ impl KRecord {
 
     // Prints the record beside its line.
     pub fn print(self, line: &[u8], buf: &mut [u8]) -> Printed
-        ensures { Prints (kText self line.now) buf.old buf.new result }
+        ensures { Prints (k_text self line.now) buf.old buf.new result }
     {
         let rest = self.rest;
         match rest.find(line) {

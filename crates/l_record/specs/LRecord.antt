@@ -2,35 +2,35 @@
 use Rattle.text.specs.Prelude.{ℕ, code, List, [], ◌∷◌, ◌++◌, length, Res, ok, no, bind, guard, ◌≤?◌, ◌=?◌}
 use Rattle.text.specs.Prelude.{byte, cut}
 use Rattle.text.specs.declared.refusal.Refusal.TheVariants.{Syntax}
-use Rattle.part.specs.Part.{nameFrom, partText, maybeText, partBytes, maybeBytes}
-use Rattle.field.specs.Field.{asciiIn}
+use Rattle.part.specs.Part.{name_from, part_text, maybe_text, part_bytes, maybe_bytes}
+use Rattle.field.specs.Field.{ascii_in}
 use Rattle.l_record.specs.declared.{LRecord.LRecord, LRead.LRead}
 
 -- Under 4 bytes 1; a first byte other than L 1; 0-4 ASCII (2); source 1-4, text; an empty text is none.
-unfoldable pub readL : List ℕ → Res LRecord
-readL s =
+unfoldable pub read_l : List ℕ → Res LRecord
+read_l s =
     guard (4 ≤? length s) Syntax
     (guard (byte 0 s =? code "L") Syntax
-    (asciiIn (cut 0 4 s)
-    (ok (record { source = record { start = 1; len = 3 }; text = nameFrom 4 s }))))
+    (ascii_in (cut 0 4 s)
+    (ok (record { source = record { start = 1; len = 3 }; text = name_from 4 s }))))
 
 -- The letter, the source, the text.
-unfoldable pub lBody : List ℕ → List ℕ → List ℕ
-lBody source text = (code "L" ∷ []) ++ (source ++ text)
+unfoldable pub l_body : List ℕ → List ℕ → List ℕ
+l_body source text = (code "L" ∷ []) ++ (source ++ text)
 
 -- The same with the parts that the line has; one that lies outside is left out.
-abbrev pub lPiece : LRecord → List ℕ → List ℕ
-lPiece r s = lBody (partBytes r.source s) (maybeBytes r.text s)
+abbrev pub l_piece : LRecord → List ℕ → List ℕ
+l_piece r s = l_body (part_bytes r.source s) (maybe_bytes r.text s)
 
 -- The text of a record beside its line; 9 where a part lies outside.
-unfoldable pub lText : LRecord → List ℕ → Res (List ℕ)
-lText r s =
-    bind (partText r.source s) (λ source.
-    bind (maybeText r.text s) (λ text.
-    ok (lBody source text)))
+unfoldable pub l_text : LRecord → List ℕ → Res (List ℕ)
+l_text r s =
+    bind (part_text r.source s) (λ source.
+    bind (maybe_text r.text s) (λ text.
+    ok (l_body source text)))
 
 -- ---- the answers of the code
 
-abbrev pub lRes : LRead → Res LRecord
-lRes (LRead.Ok v) = ok v
-lRes (LRead.Refused n) = no n
+abbrev pub l_res : LRead → Res LRecord
+l_res (LRead.Ok v) = ok v
+l_res (LRead.Refused n) = no n

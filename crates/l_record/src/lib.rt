@@ -1,9 +1,9 @@
 // L lines, as src/records/l_record.rs has them; the Rust keeps source and text in one string.
 ghost use Rattle.std.specs.Prelude.{◌≡◌};
-ghost use Rattle.part.specs.Part.{findPart, findMaybe, shown, Shows};
+ghost use Rattle.part.specs.Part.{find_part, find_maybe, shown, Shows};
 ghost use Rattle.put.specs.Put.{Wrote};
 ghost use Rattle.print.specs.Print.{Prints};
-ghost use Rattle.l_record.specs.LRecord.{readL, lPiece, lText, lRes};
+ghost use Rattle.l_record.specs.LRecord.{read_l, l_piece, l_text, l_res};
 
 use field::is_ascii;
 use part::{Found, MaybePart, Part};
@@ -12,13 +12,13 @@ use put::{put_byte, put_maybe, put_part};
 use text::refusal::Refusal;
 
 // A remark, and who or what wrote it: a maker's code, or as PLT the pilot's.
-#[derive(Drop)]
+#[derive(Clone, Copy)]
 pub struct LRecord {
     pub source: Part,
     pub text: MaybePart,
 }
 
-#[derive(Drop)]
+#[derive(Clone, Copy)]
 pub enum LRead {
     Ok(LRecord),
     Refused(Refusal),
@@ -27,7 +27,7 @@ pub enum LRead {
 impl LRecord {
     // Reads an L line.
     pub fn parse(line: &[u8]) -> LRead
-        ensures { lRes result ≡ readL line.now }
+        ensures { l_res result ≡ read_l line.now }
     {
         if line.len() < 4 {
             return LRead::Refused(Refusal::Syntax);
@@ -46,7 +46,7 @@ impl LRecord {
 
     // The source, as a part of the caller's own line.
     pub fn source(self, line: &[u8]) -> &[u8]
-        ensures { Shows line.entry (shown (findPart self.source line.now)) result }
+        ensures { Shows line.entry (shown (find_part self.source line.now)) result }
     {
         let source = self.source;
         source.view(line)
@@ -54,7 +54,7 @@ impl LRecord {
 
     // The text, as a part of the caller's own line.
     pub fn text(self, line: &[u8]) -> &[u8]
-        ensures { Shows line.entry (shown (findMaybe self.text line.now)) result }
+        ensures { Shows line.entry (shown (find_maybe self.text line.now)) result }
     {
         let text = self.text;
         text.view(line)
@@ -63,7 +63,7 @@ impl LRecord {
     // The text as a piece of a larger one, from a place on: bytes that are too short cut it, and what lies outside the
     // line is left out. `print` is the printer.
     pub fn put_piece(self, buf: &mut [u8], at: usize, line: &[u8]) -> usize
-        ensures { Wrote buf.old at (lPiece self line.now) buf.new result }
+        ensures { Wrote buf.old at (l_piece self line.now) buf.new result }
     {
         let source = self.source;
         let text = self.text;
@@ -74,7 +74,7 @@ impl LRecord {
 
     // Prints the record beside its line.
     pub fn print(self, line: &[u8], buf: &mut [u8]) -> Printed
-        ensures { Prints (lText self line.now) buf.old buf.new result }
+        ensures { Prints (l_text self line.now) buf.old buf.new result }
     {
         let source = self.source;
         let text = self.text;

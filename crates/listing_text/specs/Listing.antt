@@ -1,22 +1,22 @@
 -- The listing of a log: a line for each reading of a fresh walk, and the trailer over them.
 use Rattle.text.specs.Prelude.{ℕ, ◌+◌, ◌*◌, ◌≤◌, List, ◌++◌, length, largest}
-use Rattle.log.specs.Log.{readings}
-use Rattle.log.specs.Fold.{over, texts}
+use Rattle.igc_log.specs.Log.{readings}
+use Rattle.igc_log.specs.Fold.{over, texts}
 use Rattle.walk.specs.Readings.{Line-read, reader}
-use Rattle.trailer_text.specs.Trailer.{nothing, countStep, trailerText}
-use Rattle.listing_text.specs.Line.{listingLine}
+use Rattle.trailer_text.specs.Trailer.{nothing, count_step, trailer_text_of}
+use Rattle.listing_text.specs.Line.{listing_line}
 
 -- The line of the listing for a reading.
 unfoldable pub line_of : Line-read → List ℕ
-line_of x = listingLine x.number x.line x.answer
+line_of x = listing_line x.number x.line x.answer
 
 -- What is listed of a walk's readings.
 unfoldable pub listed : List Line-read → List ℕ
-listed xs = texts line_of xs ++ trailerText (over countStep nothing xs)
+listed xs = texts line_of xs ++ trailer_text_of (over count_step nothing xs)
 
 -- The listing of a log.
-unfoldable pub listingText : List ℕ → List ℕ
-listingText log = listed (readings reader log)
+unfoldable pub listing_text_of : List ℕ → List ℕ
+listing_text_of log = listed (readings reader log)
 
 -- ---- how long it is
 
@@ -27,4 +27,4 @@ room_for n = 38 * n + 65
 
 -- No log that a machine can hold has a longer listing.
 abbrev pub HasRoom : Type 0
-HasRoom = (log : List ℕ) → length log ≤ largest → length (listingText log) ≤ room_for (length log)
+HasRoom = (log : List ℕ) → length log ≤ largest → length (listing_text_of log) ≤ room_for (length log)

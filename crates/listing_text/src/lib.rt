@@ -4,8 +4,8 @@ pub mod paper;
 
 ghost use Rattle.std.specs.Prelude.{◌≡◌};
 ghost use Rattle.put.specs.Put.{Wrote};
-ghost use Rattle.records.specs.Record.{readingRes};
-ghost use Rattle.listing_text.specs.Line.{firstLetter, answerText, headText, fixHeights, heightsOf, listingLine};
+ghost use Rattle.records.specs.Record.{reading_res};
+ghost use Rattle.listing_text.specs.Line.{first_letter, answer_text, head_text, fix_heights, heights_of, listing_line};
 
 use b_record::BRecord;
 use print::number::put_nat;
@@ -14,7 +14,7 @@ use records::{MaybeFix, Reading};
 
 // The first byte if it is A to Z, else `-`.
 fn letter_of(line: &[u8]) -> u8
-    ensures { result ≡ firstLetter line.now }
+    ensures { result ≡ first_letter line.now }
 {
     if line.len() == 0 {
         return b'-';
@@ -31,7 +31,7 @@ fn letter_of(line: &[u8]) -> u8
 
 // Letter and answer, each behind a space.
 fn put_answer(buf: &mut [u8], at: usize, line: &[u8], reading: Reading) -> usize
-    ensures { Wrote buf.old at (answerText line.now (readingRes reading)) buf.new
+    ensures { Wrote buf.old at (answer_text line.now (reading_res reading)) buf.new
         result }
 {
     let at_letter = put_byte(buf, at, b' ');
@@ -42,7 +42,7 @@ fn put_answer(buf: &mut [u8], at: usize, line: &[u8], reading: Reading) -> usize
 
 // Number, letter and answer.
 pub fn put_head(buf: &mut [u8], at: usize, number: u64, line: &[u8], reading: Reading) -> usize
-    ensures { Wrote buf.old at (headText number line.now (readingRes reading))
+    ensures { Wrote buf.old at (head_text number line.now (reading_res reading))
         buf.new result }
 {
     let at_answer = put_nat(buf, at, number, 1);
@@ -51,7 +51,7 @@ pub fn put_head(buf: &mut [u8], at: usize, number: u64, line: &[u8], reading: Re
 
 // The pressure height and then the GPS height, each behind a space.
 fn put_fix(buf: &mut [u8], at: usize, fix: BRecord) -> usize
-    ensures { Wrote buf.old at (fixHeights fix) buf.new result }
+    ensures { Wrote buf.old at (fix_heights fix) buf.new result }
 {
     let pressure = fix.pressure_alt;
     let gps = fix.gps_alt;
@@ -63,7 +63,7 @@ fn put_fix(buf: &mut [u8], at: usize, fix: BRecord) -> usize
 
 // The heights of a fix; nothing where there is none.
 fn put_heights(buf: &mut [u8], at: usize, fix: MaybeFix) -> usize
-    ensures { Wrote buf.old at (heightsOf fix) buf.new result }
+    ensures { Wrote buf.old at (heights_of fix) buf.new result }
 {
     match fix {
         MaybeFix::Fix(b) => put_fix(buf, at, b),
@@ -73,7 +73,7 @@ fn put_heights(buf: &mut [u8], at: usize, fix: MaybeFix) -> usize
 
 // A line of the listing, closed by LF.
 pub fn put_line(buf: &mut [u8], at: usize, number: u64, line: &[u8], reading: Reading) -> usize
-    ensures { Wrote buf.old at (listingLine number line.now (readingRes reading))
+    ensures { Wrote buf.old at (listing_line number line.now (reading_res reading))
         buf.new result }
 {
     let at_heights = put_head(buf, at, number, line, reading);

@@ -3,7 +3,7 @@ ghost use Rattle.std.specs.Prelude.{◌≡◌};
 ghost use Rattle.text.specs.Res.{ok, ◌≤?◌};
 ghost use Rattle.put.specs.Put.{Wrote};
 ghost use Rattle.print.specs.Print.{Prints};
-ghost use Rattle.listing_text.specs.Listing.{listingText, room_for};
+ghost use Rattle.listing_text.specs.Listing.{listing_text_of, room_for};
 
 use crate::put_line;
 use print::printed::Printed;
@@ -13,7 +13,7 @@ use walk::turn::read_at;
 
 // What a fresh walk over the log reads, line by line, and the trailer.
 fn put_listing(buf: &mut [u8], at: usize, log: &[u8]) -> usize
-    ensures { Wrote buf.old at (listingText log.now) buf.new result }
+    ensures { Wrote buf.old at (listing_text_of log.now) buf.new result }
 {
     let mut trailer = Trailer::new();
     let mut end = at;
@@ -43,7 +43,7 @@ fn has_room(n: usize, room: usize) -> bool
 // The log is read once where the listing has room for sure. Else it is tried on no bytes first: a refused call leaves
 // lent bytes as they were.
 pub fn print_listing(log: &[u8], buf: &mut [u8]) -> Printed
-    ensures { Prints (ok (listingText log.now)) buf.old buf.new result }
+    ensures { Prints (ok (listing_text_of log.now)) buf.old buf.new result }
 {
     if has_room(log.len(), buf.len()) {
         return Printed::Written(put_listing(buf, 0, log));

@@ -1,7 +1,7 @@
 // The text of the paper's program, which takes a log of at most 65,536 bytes.
 ghost use Rattle.text.specs.Res.{ok};
 ghost use Rattle.print.specs.Print.{Prints};
-ghost use Rattle.listing_text.specs.Paper.{paperText};
+ghost use Rattle.listing_text.specs.Paper.{paper_text};
 
 use crate::listing::print_listing;
 use print::printed::Printed;
@@ -10,7 +10,7 @@ use text::refusal::Refusal;
 
 // The listing, or that the log is too long.
 pub fn print_paper(log: &[u8], buf: &mut [u8]) -> Printed
-    ensures { Prints (ok (paperText log.now)) buf.old buf.new result }
+    ensures { Prints (ok (paper_text log.now)) buf.old buf.new result }
 {
     if log.len() <= 65536 {
         return print_listing(log, buf);

@@ -5,62 +5,62 @@ use Rattle.manufacturer.specs.declared.{Manufacturer.Manufacturer, MaybeLetter.M
 use Rattle.manufacturer.specs.declared.{MaybeTriple.MaybeTriple}
 
 -- The letter of a maker that has one.
-unfoldable pub letterOf : Manufacturer → MaybeLetter
-letterOf Manufacturer.Aircotec = MaybeLetter.Letter (code "I")
-letterOf Manufacturer.CambridgeAeroInstruments = MaybeLetter.Letter (code "C")
-letterOf Manufacturer.ClearNavInstruments = MaybeLetter.Missing
-letterOf Manufacturer.DataSwan = MaybeLetter.Letter (code "D")
-letterOf Manufacturer.EwAvionics = MaybeLetter.Letter (code "E")
-letterOf Manufacturer.Filser = MaybeLetter.Letter (code "F")
-letterOf Manufacturer.Flarm = MaybeLetter.Letter (code "G")
-letterOf Manufacturer.Flytech = MaybeLetter.Missing
-letterOf Manufacturer.Garrecht = MaybeLetter.Letter (code "A")
-letterOf Manufacturer.ImiGlidingEquipment = MaybeLetter.Letter (code "M")
-letterOf Manufacturer.Logstream = MaybeLetter.Missing
-letterOf Manufacturer.LxNavigation = MaybeLetter.Letter (code "L")
-letterOf Manufacturer.LxNav = MaybeLetter.Letter (code "V")
-letterOf Manufacturer.Naviter = MaybeLetter.Missing
-letterOf Manufacturer.NewTechnologies = MaybeLetter.Letter (code "N")
-letterOf Manufacturer.NielsenKellerman = MaybeLetter.Letter (code "K")
-letterOf Manufacturer.Peschges = MaybeLetter.Letter (code "P")
-letterOf Manufacturer.PressFinishElectronics = MaybeLetter.Missing
-letterOf Manufacturer.PrintTechnik = MaybeLetter.Letter (code "R")
-letterOf Manufacturer.Scheffel = MaybeLetter.Letter (code "H")
-letterOf Manufacturer.StreamlineDataInstruments = MaybeLetter.Letter (code "S")
-letterOf Manufacturer.TriadisEngineering = MaybeLetter.Letter (code "T")
-letterOf Manufacturer.Zander = MaybeLetter.Letter (code "Z")
-letterOf (Manufacturer.UnknownSingle l) = MaybeLetter.Letter l
-letterOf (Manufacturer.UnknownTriple t) = MaybeLetter.Missing
+unfoldable pub letter_of_lem : Manufacturer → MaybeLetter
+letter_of_lem Manufacturer.Aircotec = MaybeLetter.Letter (code "I")
+letter_of_lem Manufacturer.CambridgeAeroInstruments = MaybeLetter.Letter (code "C")
+letter_of_lem Manufacturer.ClearNavInstruments = MaybeLetter.Missing
+letter_of_lem Manufacturer.DataSwan = MaybeLetter.Letter (code "D")
+letter_of_lem Manufacturer.EwAvionics = MaybeLetter.Letter (code "E")
+letter_of_lem Manufacturer.Filser = MaybeLetter.Letter (code "F")
+letter_of_lem Manufacturer.Flarm = MaybeLetter.Letter (code "G")
+letter_of_lem Manufacturer.Flytech = MaybeLetter.Missing
+letter_of_lem Manufacturer.Garrecht = MaybeLetter.Letter (code "A")
+letter_of_lem Manufacturer.ImiGlidingEquipment = MaybeLetter.Letter (code "M")
+letter_of_lem Manufacturer.Logstream = MaybeLetter.Missing
+letter_of_lem Manufacturer.LxNavigation = MaybeLetter.Letter (code "L")
+letter_of_lem Manufacturer.LxNav = MaybeLetter.Letter (code "V")
+letter_of_lem Manufacturer.Naviter = MaybeLetter.Missing
+letter_of_lem Manufacturer.NewTechnologies = MaybeLetter.Letter (code "N")
+letter_of_lem Manufacturer.NielsenKellerman = MaybeLetter.Letter (code "K")
+letter_of_lem Manufacturer.Peschges = MaybeLetter.Letter (code "P")
+letter_of_lem Manufacturer.PressFinishElectronics = MaybeLetter.Missing
+letter_of_lem Manufacturer.PrintTechnik = MaybeLetter.Letter (code "R")
+letter_of_lem Manufacturer.Scheffel = MaybeLetter.Letter (code "H")
+letter_of_lem Manufacturer.StreamlineDataInstruments = MaybeLetter.Letter (code "S")
+letter_of_lem Manufacturer.TriadisEngineering = MaybeLetter.Letter (code "T")
+letter_of_lem Manufacturer.Zander = MaybeLetter.Letter (code "Z")
+letter_of_lem (Manufacturer.UnknownSingle l) = MaybeLetter.Letter l
+letter_of_lem (Manufacturer.UnknownTriple t) = MaybeLetter.Missing
 
 -- The triple that a text of three characters spells.
-unfoldable pub tripleSpelt : String → MaybeTriple
-tripleSpelt s = MaybeTriple.Triple (code (char_at s 0), code (char_at s 1), code (char_at s 2))
+unfoldable pub triple_spelt : String → MaybeTriple
+triple_spelt s = MaybeTriple.Triple (code (char_at s 0), code (char_at s 1), code (char_at s 2))
 
 -- The triple of a maker that has one.
 unfoldable pub triple_of : Manufacturer → MaybeTriple
-triple_of Manufacturer.Aircotec = tripleSpelt "ACT"
-triple_of Manufacturer.CambridgeAeroInstruments = tripleSpelt "CAM"
-triple_of Manufacturer.ClearNavInstruments = tripleSpelt "CNI"
-triple_of Manufacturer.DataSwan = tripleSpelt "DSX"
-triple_of Manufacturer.EwAvionics = tripleSpelt "EWA"
-triple_of Manufacturer.Filser = tripleSpelt "FIL"
-triple_of Manufacturer.Flarm = tripleSpelt "FLA"
-triple_of Manufacturer.Flytech = tripleSpelt "FLY"
-triple_of Manufacturer.Garrecht = tripleSpelt "GCS"
-triple_of Manufacturer.ImiGlidingEquipment = tripleSpelt "IMI"
-triple_of Manufacturer.Logstream = tripleSpelt "LGS"
-triple_of Manufacturer.LxNavigation = tripleSpelt "LXN"
-triple_of Manufacturer.LxNav = tripleSpelt "LXV"
-triple_of Manufacturer.Naviter = tripleSpelt "NAV"
-triple_of Manufacturer.NewTechnologies = tripleSpelt "NTE"
-triple_of Manufacturer.NielsenKellerman = tripleSpelt "NKL"
-triple_of Manufacturer.Peschges = tripleSpelt "PES"
-triple_of Manufacturer.PressFinishElectronics = tripleSpelt "PFE"
-triple_of Manufacturer.PrintTechnik = tripleSpelt "PRT"
-triple_of Manufacturer.Scheffel = tripleSpelt "SCH"
-triple_of Manufacturer.StreamlineDataInstruments = tripleSpelt "SDI"
-triple_of Manufacturer.TriadisEngineering = tripleSpelt "TRI"
-triple_of Manufacturer.Zander = tripleSpelt "ZAN"
+triple_of Manufacturer.Aircotec = triple_spelt "ACT"
+triple_of Manufacturer.CambridgeAeroInstruments = triple_spelt "CAM"
+triple_of Manufacturer.ClearNavInstruments = triple_spelt "CNI"
+triple_of Manufacturer.DataSwan = triple_spelt "DSX"
+triple_of Manufacturer.EwAvionics = triple_spelt "EWA"
+triple_of Manufacturer.Filser = triple_spelt "FIL"
+triple_of Manufacturer.Flarm = triple_spelt "FLA"
+triple_of Manufacturer.Flytech = triple_spelt "FLY"
+triple_of Manufacturer.Garrecht = triple_spelt "GCS"
+triple_of Manufacturer.ImiGlidingEquipment = triple_spelt "IMI"
+triple_of Manufacturer.Logstream = triple_spelt "LGS"
+triple_of Manufacturer.LxNavigation = triple_spelt "LXN"
+triple_of Manufacturer.LxNav = triple_spelt "LXV"
+triple_of Manufacturer.Naviter = triple_spelt "NAV"
+triple_of Manufacturer.NewTechnologies = triple_spelt "NTE"
+triple_of Manufacturer.NielsenKellerman = triple_spelt "NKL"
+triple_of Manufacturer.Peschges = triple_spelt "PES"
+triple_of Manufacturer.PressFinishElectronics = triple_spelt "PFE"
+triple_of Manufacturer.PrintTechnik = triple_spelt "PRT"
+triple_of Manufacturer.Scheffel = triple_spelt "SCH"
+triple_of Manufacturer.StreamlineDataInstruments = triple_spelt "SDI"
+triple_of Manufacturer.TriadisEngineering = triple_spelt "TRI"
+triple_of Manufacturer.Zander = triple_spelt "ZAN"
 triple_of (Manufacturer.UnknownSingle l) = MaybeTriple.Missing
 triple_of (Manufacturer.UnknownTriple t) = MaybeTriple.Triple t
 
@@ -81,23 +81,23 @@ first_of test other [] = other
 first_of test other (m ∷ ms) = pick (test m) m (first_of test other ms)
 
 -- A code is the letter l.
-unfoldable pub isLetter : ℕ → MaybeLetter → Bool
-isLetter l MaybeLetter.Missing = false
-isLetter l (MaybeLetter.Letter k) = l =? k
+unfoldable pub is_letter : ℕ → MaybeLetter → Bool
+is_letter l MaybeLetter.Missing = false
+is_letter l (MaybeLetter.Letter k) = l =? k
 
 -- A code is the triple t.
-unfoldable pub isTriple : Mnemonic → MaybeTriple → Bool
-isTriple t MaybeTriple.Missing = false
-isTriple t (MaybeTriple.Triple u) = (t.0 =? u.0) ∧? (t.1 =? u.1) ∧? (t.2 =? u.2)
+unfoldable pub is_triple : Mnemonic → MaybeTriple → Bool
+is_triple t MaybeTriple.Missing = false
+is_triple t (MaybeTriple.Triple u) = (t.0 =? u.0) ∧? (t.1 =? u.1) ∧? (t.2 =? u.2)
 
 -- The maker that a letter is read as: the known one, or else an unknown one that carries it.
-unfoldable pub letterMaker : ℕ → Manufacturer
-letterMaker l = first_of (λ m. isLetter l (letterOf m)) (Manufacturer.UnknownSingle l) known
+unfoldable pub letter_maker : ℕ → Manufacturer
+letter_maker l = first_of (λ m. is_letter l (letter_of_lem m)) (Manufacturer.UnknownSingle l) known
 
 -- The maker that a triple is read as, likewise.
-unfoldable pub tripleMaker : Mnemonic → Manufacturer
-tripleMaker t = first_of (λ m. isTriple t (triple_of m)) (Manufacturer.UnknownTriple t) known
+unfoldable pub triple_maker : Mnemonic → Manufacturer
+triple_maker t = first_of (λ m. is_triple t (triple_of m)) (Manufacturer.UnknownTriple t) known
 
 -- Three bytes as one number.
-unfoldable pub tripleNumber : Mnemonic → ℕ
-tripleNumber t = t.0 * 65536 + t.1 * 256 + t.2
+unfoldable pub triple_number : Mnemonic → ℕ
+triple_number t = t.0 * 65536 + t.1 * 256 + t.2

@@ -2,14 +2,14 @@
 // readers search it from the top, in the order of the definition `known`, and the writers ask it at the maker's place.
 ghost use Rattle.std.specs.Prelude.{◌≡◌, ℕ, ◌<◌, get_or};
 ghost use Rattle.text.specs.Res.{pick, ◌=?◌};
-ghost use Rattle.manufacturer.specs.Maker.{letterOf, triple_of, known, letterMaker, tripleMaker, tripleNumber};
+ghost use Rattle.manufacturer.specs.Maker.{letter_of_lem, triple_of, known, letter_maker, triple_maker, triple_number};
 
 use Manufacturer::*;
 use MaybeLetter::Letter;
 use MaybeTriple::Triple;
 use field::Mnemonic;
 
-#[derive(Drop)]
+#[derive(Clone, Copy)]
 pub enum Manufacturer {
     Aircotec,
     CambridgeAeroInstruments,
@@ -39,20 +39,20 @@ pub enum Manufacturer {
 }
 
 // A code that a maker may lack.
-#[derive(Drop)]
+#[derive(Clone, Copy)]
 pub enum MaybeLetter {
     Missing,
     Letter(u8),
 }
 
-#[derive(Drop)]
+#[derive(Clone, Copy)]
 pub enum MaybeTriple {
     Missing,
     Triple(Mnemonic),
 }
 
 // A row of the list: a maker's letter, or NONE, its triple, and the maker.
-#[derive(Drop)]
+#[derive(Clone, Copy)]
 struct Row(u8, Mnemonic, Manufacturer);
 
 // Stands in a row for the letter of a maker that has none. It is a byte, and no `MaybeLetter`, so that a search
@@ -66,7 +66,7 @@ const KNOWN: usize = 23;
 fn listed(place: usize) -> Row
     requires { place < 23 }
     ensures { (result.2 ≡ get_or known place Manufacturer.Zander) × (MaybeTriple.Triple result.1 ≡ triple_of result.2)
-        × (pick (result.0 =? 0) MaybeLetter.Missing (MaybeLetter.Letter result.0) ≡ letterOf result.2) }
+        × (pick (result.0 =? 0) MaybeLetter.Missing (MaybeLetter.Letter result.0) ≡ letter_of_lem result.2) }
 {
     match place {
         0 => Row(b'I', Mnemonic(b'A', b'C', b'T'), Aircotec),
@@ -97,7 +97,7 @@ fn listed(place: usize) -> Row
 
 // Three bytes as one number, so that one comparison decides on all of them.
 fn number(triple: Mnemonic) -> u32
-    ensures { result ≡ tripleNumber triple }
+    ensures { result ≡ triple_number triple }
 {
     (triple.0 as u32) * 65536 + (triple.1 as u32) * 256 + (triple.2 as u32)
 }
@@ -105,7 +105,7 @@ fn number(triple: Mnemonic) -> u32
 impl Manufacturer {
     // The maker of a letter; a letter that no maker has is carried.
     pub fn parse_single_char(letter: u8) -> Manufacturer
-        ensures { result ≡ letterMaker letter }
+        ensures { result ≡ letter_maker letter }
     {
         let mut place = 0;
         while place < KNOWN {
@@ -120,7 +120,7 @@ impl Manufacturer {
 
     // The maker of a triple; a triple that no maker has is carried.
     pub fn parse_triple_char(triple: Mnemonic) -> Manufacturer
-        ensures { result ≡ tripleMaker triple }
+        ensures { result ≡ triple_maker triple }
     {
         let wanted = number(triple);
         let mut place = 0;
@@ -172,7 +172,7 @@ impl Manufacturer {
 
     // The maker's letter, where it has one.
     pub fn to_single_char(self) -> MaybeLetter
-        ensures { result ≡ letterOf self }
+        ensures { result ≡ letter_of_lem self }
     {
         match self {
             UnknownSingle(own) => Letter(own),

@@ -3,30 +3,30 @@ use Rattle.text.specs.Prelude.{ℕ, List, drop, Res, ok, no, pick, ◌=?◌}
 use Rattle.std.proofs.Math.Option.{Option, none, some}
 use Rattle.time.specs.declared.Time.{Time}
 use Rattle.b_record.specs.declared.BRecord.{BRecord}
-use Rattle.records.specs.Record.{answerFix}
+use Rattle.records.specs.Record.{answer_fix}
 use Rattle.records.specs.declared.MaybeFix.{MaybeFix}
-use Rattle.log.specs.Log.{chunks, readFrom, readings}
-use Rattle.log.specs.Fold.{firstWith}
+use Rattle.igc_log.specs.Log.{chunks, read_from, readings}
+use Rattle.igc_log.specs.Fold.{first_with}
 use Rattle.walk.specs.Readings.{Line-read, reader}
-use Rattle.moment_fix.specs.Fix.{withTime}
+use Rattle.moment_fix.specs.Fix.{with_time_of}
 use Rattle.moment_fix.specs.declared.Moment.{Moment}
-use Rattle.hours.specs.Hours.{byHour, heldFor}
+use Rattle.hours.specs.Hours.{by_hour, held_for}
 use Rattle.hours.specs.declared.{First.First, Index.Index}
 
 -- ---- the index
 
 -- The place p of a fix with hours h, marked A or V.
-unfoldable pub inHour : ℕ → ℕ → MaybeFix → Option ℕ
-inHour h p (MaybeFix.Fix b) = pick (b.timestamp.hours =? h) (some p) none
-inHour h p MaybeFix.Missing = none
+unfoldable pub in_hour : ℕ → ℕ → MaybeFix → Option ℕ
+in_hour h p (MaybeFix.Fix b) = pick (b.timestamp.hours =? h) (some p) none
+in_hour h p MaybeFix.Missing = none
 
 -- The place of a reading that is an accepted B line with hours h.
-unfoldable pub hourAt : ℕ → Line-read → Option ℕ
-hourAt h x = inHour h x.place (answerFix x.answer)
+unfoldable pub hour_at : ℕ → Line-read → Option ℕ
+hour_at h x = in_hour h x.place (answer_fix x.answer)
 
 -- For each hour the place of the first accepted B line of the log in that hour, or none.
 unfoldable pub index_of : List ℕ → Index
-index_of log = byHour (λ h. firstWith (hourAt h) (readings reader log))
+index_of log = by_hour (λ h. first_with (hour_at h) (readings reader log))
 
 -- ---- the question
 
@@ -36,23 +36,23 @@ pub record Spot : Type 0 where
   pub fix : BRecord
 
 -- A fix with its place p.
-unfoldable pub spotAt : ℕ → MaybeFix → Option Spot
-spotAt p (MaybeFix.Fix b) = some (record { place = p; fix = b })
-spotAt p MaybeFix.Missing = none
+unfoldable pub spot_at : ℕ → MaybeFix → Option Spot
+spot_at p (MaybeFix.Fix b) = some (record { place = p; fix = b })
+spot_at p MaybeFix.Missing = none
 
 -- Place and record of a reading that is an accepted B line with that time.
-unfoldable pub fixAt : Time → Line-read → Option Spot
-fixAt t x = spotAt x.place (withTime t (answerFix x.answer))
+unfoldable pub fix_at : Time → Line-read → Option Spot
+fix_at t x = spot_at x.place (with_time_of t (answer_fix x.answer))
 
 -- The first of them among the lines from the place p on. A place past the end has none behind it, and from one in the
 -- middle of a line the rest of that line is the first; places are counted from the log's start.
 unfoldable pub found_from : Time → ℕ → List ℕ → Option Spot
-found_from t p log = firstWith (fixAt t) (readFrom reader 0 p reader.start (chunks (drop p log)))
+found_from t p log = first_with (fix_at t) (read_from reader 0 p reader.start (chunks (drop p log)))
 
 -- The same from the place that an index holds; where it holds none, nothing.
-unfoldable pub foundBy : Time → First → List ℕ → Option Spot
-foundBy t First.Nowhere log = none
-foundBy t (First.At p) log = found_from t p log
+unfoldable pub found_by : Time → First → List ℕ → Option Spot
+found_by t First.Nowhere log = none
+found_by t (First.At p) log = found_from t p log
 
 -- What was found; else 19.
 unfoldable pub found : Option Spot → Moment
@@ -65,9 +65,9 @@ asked (no n) search = Moment.Refused n
 asked (ok t) search = found (search t)
 
 -- The answer with any index and any log.
-unfoldable pub byIndex : Index → List ℕ → Res Time → Moment
-byIndex i log m = asked m (λ t. foundBy t (heldFor i t.hours) log)
+unfoldable pub by_index : Index → List ℕ → Res Time → Moment
+by_index i log m = asked m (λ t. found_by t (held_for i t.hours) log)
 
 -- The answer of the plain walk: the first in the whole log.
-unfoldable pub byWalk : List ℕ → Res Time → Moment
-byWalk log m = asked m (λ t. firstWith (fixAt t) (readings reader log))
+unfoldable pub by_walk : List ℕ → Res Time → Moment
+by_walk log m = asked m (λ t. first_with (fix_at t) (readings reader log))

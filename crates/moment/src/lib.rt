@@ -1,8 +1,8 @@
 // Going to a moment of a flight: beside a log an index of its hours, and the fix at a time, found by it or by a walk
 // from the log's start.
 ghost use Rattle.std.specs.Prelude.{◌≡◌};
-ghost use Rattle.time.specs.Time.{timeOf, timeRes};
-ghost use Rattle.moment.specs.Moment.{index_of, found, found_from, byIndex, byWalk};
+ghost use Rattle.time.specs.Time.{time_of, time_res};
+ghost use Rattle.moment.specs.Moment.{index_of, found, found_from, by_index, by_walk};
 
 use hours::{First, Hour, Index};
 use moment_fix::{Moment, hour_of, with_time};
@@ -53,7 +53,7 @@ pub fn index_of(log: &[u8]) -> Index
 // The answer to a time, or to what was refused for one: the search begins at the place that is held for its hour.
 // With the log's own index it is that of the walk from the start.
 pub fn answer(index: Index, log: &[u8], time: TimeRead) -> Moment
-    ensures { result ≡ byIndex index log.now (timeRes time) }
+    ensures { result ≡ by_index index log.now (time_res time) }
 {
     match time {
         TimeRead::Refused(no) => Moment::Refused(no),
@@ -66,14 +66,14 @@ pub fn answer(index: Index, log: &[u8], time: TimeRead) -> Moment
 
 // The first fix with those hours, minutes and seconds, by an index.
 pub fn find(index: Index, log: &[u8], hours: u8, minutes: u8, seconds: u8) -> Moment
-    ensures { result ≡ byIndex index log.now (timeOf hours minutes seconds) }
+    ensures { result ≡ by_index index log.now (time_of hours minutes seconds) }
 {
     answer(index, log, Time::from_hms(hours, minutes, seconds))
 }
 
 // The first fix with those hours, minutes and seconds, by a walk from the log's start.
 pub fn find_by_walk(log: &[u8], hours: u8, minutes: u8, seconds: u8) -> Moment
-    ensures { result ≡ byWalk log.now (timeOf hours minutes seconds) }
+    ensures { result ≡ by_walk log.now (time_of hours minutes seconds) }
 {
     match Time::from_hms(hours, minutes, seconds) {
         TimeRead::Refused(no_time) => Moment::Refused(no_time),

@@ -1,6 +1,6 @@
 // What a moment asks of a fix, its hours and whether it has the time; and the answer, with its number.
 ghost use Rattle.std.specs.Prelude.{◌≡◌};
-ghost use Rattle.moment_fix.specs.Fix.{hourOf, sameTime, withTime, momentNumber};
+ghost use Rattle.moment_fix.specs.Fix.{hour_of_lem, same_time_of, with_time_of, moment_number};
 
 use b_record::{BRecord, FixValid};
 use records::MaybeFix;
@@ -8,7 +8,7 @@ use text::refusal::Refusal;
 use time::Time;
 
 // The place and the record of the fix; no fix has that time; or it is no time.
-#[derive(Drop)]
+#[derive(Clone, Copy)]
 pub enum Moment {
     Found(usize, BRecord),
     NoSuchFix,
@@ -17,7 +17,7 @@ pub enum Moment {
 
 // The hours of a fix, marked A or V; a line that is none has 25, which no index holds.
 pub fn hour_of(fix: MaybeFix) -> usize
-    ensures { result ≡ hourOf fix }
+    ensures { result ≡ hour_of_lem fix }
 {
     match fix {
         MaybeFix::Missing => 25,
@@ -34,7 +34,7 @@ pub fn hour_of(fix: MaybeFix) -> usize
 
 // Hours, minutes and seconds are the same.
 fn same_time(a: Time, b: Time) -> bool
-    ensures { result ≡ sameTime a b }
+    ensures { result ≡ same_time_of a b }
 {
     if a.hours != b.hours {
         return false;
@@ -47,7 +47,7 @@ fn same_time(a: Time, b: Time) -> bool
 
 // A fix, marked A or V, if it has that time.
 pub fn with_time(fix: MaybeFix, time: Time) -> MaybeFix
-    ensures { result ≡ withTime time fix }
+    ensures { result ≡ with_time_of time fix }
 {
     match fix {
         MaybeFix::Missing => MaybeFix::Missing,
@@ -64,7 +64,7 @@ pub fn with_time(fix: MaybeFix, time: Time) -> MaybeFix
 impl Moment {
     // The number that the paper gives it.
     pub fn number(self) -> u8
-        ensures { result ≡ momentNumber self }
+        ensures { result ≡ moment_number self }
     {
         match self {
             Moment::Found(_, _) => 0,

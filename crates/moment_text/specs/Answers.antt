@@ -1,33 +1,33 @@
 -- The answers to times asked as HHMMSS, as text.
 use Rattle.text.specs.Prelude.{ℕ, zero, suc, ◌/◌, code, Bool, List, [], ◌∷◌, ◌++◌, length, take, drop, ◌=?◌, ◌∧?◌, LF}
-use Rattle.text.specs.Prelude.{allDigits}
-use Rattle.time.specs.Time.{readTime}
-use Rattle.b_record.specs.BRecord.{pressureText, gpsText}
+use Rattle.text.specs.Prelude.{all_digits_of}
+use Rattle.time.specs.Time.{read_time_of}
+use Rattle.b_record.specs.BRecord.{pressure_text, gps_text}
 use Rattle.b_record.specs.declared.BRecord.{BRecord}
-use Rattle.log.specs.Fold.{texts}
-use Rattle.moment_fix.specs.Fix.{momentNumber}
+use Rattle.igc_log.specs.Fold.{texts}
+use Rattle.moment_fix.specs.Fix.{moment_number}
 use Rattle.moment_fix.specs.declared.Moment.{Moment}
-use Rattle.moment.specs.Moment.{byWalk}
-use Rattle.piece_text.specs.Piece.{numberShown}
+use Rattle.moment.specs.Moment.{by_walk}
+use Rattle.piece_text.specs.Piece.{number_shown}
 
 -- A time is asked for by six digits.
-unfoldable pub isAsked : List ℕ → Bool
-isAsked word = (length word =? 6) ∧? allDigits word
+unfoldable pub is_asked_of : List ℕ → Bool
+is_asked_of word = (length word =? 6) ∧? all_digits_of word
 
 -- The pressure height and the GPS height of a fix, in width 5.
-unfoldable pub heightsText : BRecord → List ℕ
-heightsText b =
-    (code " " ∷ []) ++ (pressureText 5 b.pressure_alt ++ ((code " " ∷ []) ++ gpsText 5 b.gps_alt))
+unfoldable pub heights_text : BRecord → List ℕ
+heights_text b =
+    (code " " ∷ []) ++ (pressure_text 5 b.pressure_alt ++ ((code " " ∷ []) ++ gps_text 5 b.gps_alt))
 
 -- The place of what was found, and its heights; else nothing.
-unfoldable pub foundText : Moment → List ℕ
-foundText (Moment.Found p b) = numberShown p ++ heightsText b
-foundText Moment.NoSuchFix = []
-foundText (Moment.Refused n) = []
+unfoldable pub found_text : Moment → List ℕ
+found_text (Moment.Found p b) = number_shown p ++ heights_text b
+found_text Moment.NoSuchFix = []
+found_text (Moment.Refused n) = []
 
 -- A line: the time as asked, the answer, and for 0 what was found.
-unfoldable pub momentLine : List ℕ → Moment → List ℕ
-momentLine word a = word ++ (numberShown (momentNumber a) ++ (foundText a ++ (LF ∷ [])))
+unfoldable pub moment_line : List ℕ → Moment → List ℕ
+moment_line word a = word ++ (number_shown (moment_number a) ++ (found_text a ++ (LF ∷ [])))
 
 -- k words of six bytes each.
 unfoldable pub sixes : ℕ → List ℕ → List (List ℕ)
@@ -39,9 +39,9 @@ unfoldable pub words_in : List ℕ → List (List ℕ)
 words_in s = sixes (length s / 6) s
 
 -- The line of one word: the time that it reads as, answered by the plain walk.
-unfoldable pub answerLine : List ℕ → List ℕ → List ℕ
-answerLine log word = momentLine word (byWalk log (readTime word))
+unfoldable pub answer_line : List ℕ → List ℕ → List ℕ
+answer_line log word = moment_line word (by_walk log (read_time_of word))
 
 -- The whole text.
-unfoldable pub momentsText : List ℕ → List ℕ → List ℕ
-momentsText log words = texts (answerLine log) (words_in words)
+unfoldable pub moments_text : List ℕ → List ℕ → List ℕ
+moments_text log words = texts (answer_line log) (words_in words)

@@ -1,9 +1,9 @@
 // The answers to times asked as HHMMSS, a line of text each.
 ghost use Rattle.std.specs.Prelude.{◌≡◌};
 ghost use Rattle.put.specs.Put.{Wrote};
-ghost use Rattle.time.specs.Time.{readTime};
-ghost use Rattle.moment.specs.Moment.{byIndex};
-ghost use Rattle.moment_text.specs.Answers.{isAsked, heightsText, foundText, momentLine, momentsText};
+ghost use Rattle.time.specs.Time.{read_time_of};
+ghost use Rattle.moment.specs.Moment.{by_index};
+ghost use Rattle.moment_text.specs.Answers.{is_asked_of, heights_text, found_text, moment_line, moments_text};
 
 use b_record::BRecord;
 use field::all_digits;
@@ -16,7 +16,7 @@ use time::Time;
 
 // Six digits.
 pub fn is_asked(word: &[u8]) -> bool
-    ensures { result ≡ isAsked word.now }
+    ensures { result ≡ is_asked_of word.now }
 {
     if word.len() != 6 {
         return false;
@@ -26,7 +26,7 @@ pub fn is_asked(word: &[u8]) -> bool
 
 // The heights of a fix, the pressure height first.
 fn put_heights(buf: &mut [u8], at: usize, fix: BRecord) -> usize
-    ensures { Wrote buf.old at (heightsText fix) buf.new result }
+    ensures { Wrote buf.old at (heights_text fix) buf.new result }
 {
     let pressure = fix.pressure_alt;
     let gps = fix.gps_alt;
@@ -38,7 +38,7 @@ fn put_heights(buf: &mut [u8], at: usize, fix: BRecord) -> usize
 
 // What stands behind the answer's number.
 fn put_found(buf: &mut [u8], at: usize, answer: Moment) -> usize
-    ensures { Wrote buf.old at (foundText answer) buf.new result }
+    ensures { Wrote buf.old at (found_text answer) buf.new result }
 {
     match answer {
         Moment::Found(place, fix) => {
@@ -52,7 +52,7 @@ fn put_found(buf: &mut [u8], at: usize, answer: Moment) -> usize
 
 // The time as asked, the number of the answer, and what was found.
 pub fn put_line(buf: &mut [u8], at: usize, word: &[u8], answer: Moment) -> usize
-    ensures { Wrote buf.old at (momentLine word.now answer) buf.new result }
+    ensures { Wrote buf.old at (moment_line word.now answer) buf.new result }
 {
     let at_answer = put_bytes(buf, at, word);
     let at_found = show_number(buf, at_answer, answer.number() as u64);
@@ -63,7 +63,7 @@ pub fn put_line(buf: &mut [u8], at: usize, word: &[u8], answer: Moment) -> usize
 // The line of one time, by an index.
 fn put_answer(buf: &mut [u8], at: usize, index: Index, log: &[u8], word: &[u8]) -> usize
     ensures { Wrote buf.old at
-        (momentLine word.now (byIndex index log.now (readTime word.now)))
+        (moment_line word.now (by_index index log.now (read_time_of word.now)))
         buf.new result }
 {
     let found = answer(index, log, Time::parse(word));
@@ -72,7 +72,7 @@ fn put_answer(buf: &mut [u8], at: usize, index: Index, log: &[u8], word: &[u8]) 
 
 // The lines of times of six bytes each, in their order: the answers of the plain walk, by the log's own index.
 pub fn put_moments(buf: &mut [u8], at: usize, log: &[u8], words: &[u8]) -> usize
-    ensures { Wrote buf.old at (momentsText log.now words.now)
+    ensures { Wrote buf.old at (moments_text log.now words.now)
         buf.new result }
 {
     let index = index_of(log);

@@ -3,7 +3,7 @@ ghost use Rattle.std.specs.Prelude.{◌≡◌, ◌+◌, ◌≤◌, length};
 ghost use Rattle.text.specs.Word.{largest};
 ghost use Rattle.put.specs.Put.{Wrote};
 ghost use Rattle.files.specs.Input.{Within};
-ghost use Rattle.moments.specs.Answers.{wasRead, answersOf};
+ghost use Rattle.moments.specs.Answers.{was_read_of, answers_of};
 
 use files::input::{Filled, is_dash, open, read_on};
 use files::outcome::{Outcome, write_text};
@@ -66,7 +66,7 @@ fn read_times(first: usize, count: usize, times: &mut [u8]) -> bool
 // The answers of a log that was read to its end; of any other there are none.
 fn put_answers(filled: Filled, log: &[u8], times: &[u8], text: &mut [u8]) -> usize
     requires { Within filled log.now }
-    ensures { Wrote text.old 0 (answersOf filled log.now times.now)
+    ensures { Wrote text.old 0 (answers_of filled log.now times.now)
         text.new result }
 {
     match filled {
@@ -78,7 +78,7 @@ fn put_answers(filled: Filled, log: &[u8], times: &[u8], text: &mut [u8]) -> usi
 
 // The log was read to its end; where it was not, a sentence says why it has no answers.
 fn was_read(filled: Filled, file: &[u8]) -> bool
-    ensures { result ≡ wasRead filled }
+    ensures { result ≡ was_read_of filled }
 {
     match filled {
         Filled::Ended(_) => true,

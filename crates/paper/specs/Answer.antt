@@ -1,14 +1,14 @@
 -- What the paper's program writes.
 use Rattle.text.specs.Prelude.{ℕ, ◌≤◌, ◌≡◌, List, [], length, take}
-use Rattle.listing_text.specs.Paper.{paperText}
+use Rattle.listing_text.specs.Paper.{paper_text}
 use Rattle.files.specs.declared.input.Filled.{Filled}
 use Rattle.files.specs.declared.input.Filled.TheVariants.{Ended, Full, Failed}
 
 -- The text of all that was read; bytes that are full are more than a log may have; where a read failed, nothing.
-unfoldable pub writtenAnswer : Filled → List ℕ → List ℕ
-writtenAnswer (Ended n) log = paperText (take n log)
-writtenAnswer Full log = paperText log
-writtenAnswer Failed log = []
+unfoldable pub written_answer : Filled → List ℕ → List ℕ
+written_answer (Ended n) log = paper_text (take n log)
+written_answer Full log = paper_text log
+written_answer Failed log = []
 
 -- The first r of some bytes are the text.
 abbrev pub Begins : ℕ → List ℕ → List ℕ → Type 0

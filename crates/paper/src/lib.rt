@@ -1,8 +1,8 @@
 // The paper's program: the listing of a log of at most 65,536 bytes.
 ghost use Rattle.std.specs.Prelude.{◌≡◌, length};
-ghost use Rattle.listing_text.specs.Paper.{paperText};
+ghost use Rattle.listing_text.specs.Paper.{paper_text};
 ghost use Rattle.files.specs.Input.{Within};
-ghost use Rattle.paper.specs.Answer.{writtenAnswer, Begins};
+ghost use Rattle.paper.specs.Answer.{written_answer, Begins};
 
 use files::input::{Filled, read_on};
 use files::outcome::{Outcome, write_text};
@@ -26,7 +26,7 @@ fn text_buffer() -> [u8; 2490433]
 // What the program writes, by how far its bytes were filled. It always has room.
 fn put_answer(filled: Filled, log: &[u8], text: &mut [u8]) -> usize
     requires { Within filled log.now × (2490433 ≡ length text.old) }
-    ensures { Begins result text.new (writtenAnswer filled log.now) }
+    ensures { Begins result text.new (written_answer filled log.now) }
 {
     match filled {
         Filled::Ended(n) => put_paper(&log[0..n], text),
@@ -37,7 +37,7 @@ fn put_answer(filled: Filled, log: &[u8], text: &mut [u8]) -> usize
 
 fn put_paper(log: &[u8], text: &mut [u8]) -> usize
     requires { 2490433 ≡ length text.old }
-    ensures { Begins result text.new (paperText log.now) }
+    ensures { Begins result text.new (paper_text log.now) }
 {
     match print_paper(log, text) {
         Printed::Written(n) => n,

@@ -3,78 +3,78 @@ use Rattle.text.specs.Prelude.{ℕ, zero, suc, ◌+◌, ◌*◌, ◌/◌, ◌≤
 use Rattle.text.specs.Prelude.{length, drop, get_or, pick}
 use Rattle.text.proofs.Prelude.{arith, refl, ap, ◌∙◌, length-take, drop-cons, get_or-take, first, second, yes≤, no≤}
 use native.Mathlib.Nat.{suc-add}
-use Rattle.table.specs.Table.{empty, defsOf}
+use Rattle.table.specs.Table.{empty, defs_of}
 use Rattle.extension.specs.declared.Extension.{Extension}
 use Rattle.table.specs.declared.Table.{Table}
 use Rattle.held.specs.Held.{is_set}
 use Rattle.held.specs.declared.Held.{Held}
-use Rattle.piece_text.specs.Value.{names_of, tableNames, namesIn, askedFor}
+use Rattle.piece_text.specs.Value.{names_of, table_names, names_in, asked_for}
 
 -- ---- the names given
 
 -- as many as there are threes of bytes
-pub in-threes : (s : List ℕ) → length (namesIn s) ≡ length s / 3
-unfolding namesIn
-in-threes [] = refl
-in-threes (a ∷ []) = refl
-in-threes (a ∷ (b ∷ [])) = refl
-in-threes (a ∷ (b ∷ (c ∷ s))) = omega (arith, in-threes s)
+pub in_threes : (s : List ℕ) → length (names_in s) ≡ length s / 3
+unfolding names_in
+in_threes [] = refl
+in_threes (a ∷ []) = refl
+in_threes (a ∷ (b ∷ [])) = refl
+in_threes (a ∷ (b ∷ (c ∷ s))) = omega (arith, in_threes s)
 
 -- the i-th is the i-th three of bytes
-pub name-at : (s : List ℕ) (i : ℕ) → i < length (namesIn s)
-    → drop i (namesIn s) ≡ record { 0 = get_or s (3 * i) 0; 1 = get_or s (3 * i + 1) 0; 2 = get_or s (3 * i + 2) 0 } ∷ drop
-    (suc i) (namesIn s)
-unfolding namesIn
-name-at [] i h = absurd (omega arith)
-name-at (a ∷ []) i h = absurd (omega arith)
-name-at (a ∷ (b ∷ [])) i h = absurd (omega arith)
-name-at (a ∷ (b ∷ (c ∷ s))) zero h = refl
-name-at (a ∷ (b ∷ (c ∷ s))) (suc i) h =
+pub name_at : (s : List ℕ) (i : ℕ) → i < length (names_in s)
+    → drop i (names_in s) ≡ record { 0 = get_or s (3 * i) 0; 1 = get_or s (3 * i + 1) 0; 2 = get_or s (3 * i + 2) 0 } ∷ drop
+    (suc i) (names_in s)
+unfolding names_in
+name_at [] i h = absurd (omega arith)
+name_at (a ∷ []) i h = absurd (omega arith)
+name_at (a ∷ (b ∷ [])) i h = absurd (omega arith)
+name_at (a ∷ (b ∷ (c ∷ s))) zero h = refl
+name_at (a ∷ (b ∷ (c ∷ s))) (suc i) h =
     let z : 3 * suc i ≡ suc (suc (suc (3 * i))) = omega arith in
-    simp (z, suc-add) (name-at s i (omega arith))
+    simp (z, suc-add) (name_at s i (omega arith))
 
 -- ---- the definitions of a table
 
 -- no more than there are slots
-pub count_defs : (t : Table) → length (defsOf t) ≡ min t.count (length t.defs)
-unfolding defsOf
+pub count_defs : (t : Table) → length (defs_of t) ≡ min t.count (length t.defs)
+unfolding defs_of
 count_defs t = length-take t.count t.defs
 
 -- the i-th is that of the i-th slot
-pub definition-at : (t : Table) (i : ℕ) → i < length (defsOf t) →
-    drop i (defsOf t) ≡ get_or t.defs i empty ∷ drop (suc i) (defsOf t)
-unfolding defsOf
-definition-at t i more = drop-cons (defsOf t) i empty more
+pub definition_at : (t : Table) (i : ℕ) → i < length (defs_of t) →
+    drop i (defs_of t) ≡ get_or t.defs i empty ∷ drop (suc i) (defs_of t)
+unfolding defs_of
+definition_at t i more = drop-cons (defs_of t) i empty more
     ∙ rw (get_or-take t.count t.defs i empty (omega (arith, count_defs t)))
 
 -- ---- the names of the table in force
 
-length-names : (l : List Extension) → length (names_of l) ≡ length l
+length_names : (l : List Extension) → length (names_of l) ≡ length l
 unfolding names_of
-length-names [] = refl
-length-names (e ∷ l) = ap suc (length-names l)
+length_names [] = refl
+length_names (e ∷ l) = ap suc (length_names l)
 
-drop-names : (l : List Extension) (i : ℕ) → drop i (names_of l) ≡ names_of (drop i l)
+drop_names : (l : List Extension) (i : ℕ) → drop i (names_of l) ≡ names_of (drop i l)
 unfolding names_of
-drop-names l zero = refl
-drop-names [] (suc i) = refl
-drop-names (e ∷ l) (suc i) = drop-names l i
+drop_names l zero = refl
+drop_names [] (suc i) = refl
+drop_names (e ∷ l) (suc i) = drop_names l i
 
 module _ (h : Held) where
   -- no table, no names
-  pub no_names : is_set h.slot ≡ false → length (tableNames h) ≡ 0
-  unfolding tableNames pick
+  pub no_names : is_set h.slot ≡ false → length (table_names h) ≡ 0
+  unfolding table_names pick
   no_names none = rw none
 
-  in-force : is_set h.slot ≡ true → tableNames h ≡ names_of (defsOf h.table)
-  unfolding tableNames pick
-  in-force set = rw set
+  in_force_lem : is_set h.slot ≡ true → table_names h ≡ names_of (defs_of h.table)
+  unfolding table_names pick
+  in_force_lem set = rw set
 
   -- one for each definition
-  pub count-names : is_set h.slot ≡ true → length (tableNames h) ≡ length (defsOf h.table)
-  count-names set = ap length (in-force set) ∙ length-names (defsOf h.table)
+  pub count_names : is_set h.slot ≡ true → length (table_names h) ≡ length (defs_of h.table)
+  count_names set = ap length (in_force_lem set) ∙ length_names (defs_of h.table)
 
-  module _ (i : ℕ) (more : i < length (tableNames h)) where
+  module _ (i : ℕ) (more : i < length (table_names h)) where
     -- where there is a name, there is a table
     set : is_set h.slot ≡ true
     set = by (is_set h.slot) refl
@@ -84,21 +84,21 @@ module _ (h : Held) where
         by false e = absurd (omega (arith, no_names e))
 
     -- and a definition
-    pub has : i < length (defsOf h.table)
-    has = omega (arith, count-names set)
+    pub has : i < length (defs_of h.table)
+    has = omega (arith, count_names set)
 
     -- the i-th is that of the i-th definition
-    pub named : drop i (tableNames h) ≡ (get_or h.table.defs i empty).mnemonic ∷ drop (suc i) (tableNames h)
+    pub named : drop i (table_names h) ≡ (get_or h.table.defs i empty).mnemonic ∷ drop (suc i) (table_names h)
     unfolding names_of
-    named = rw (in-force set, drop-names, drop-names, definition-at h.table i has)
+    named = rw (in_force_lem set, drop_names, drop_names, definition_at h.table i has)
 
 -- ---- the names asked for
 
 module _ (h : Held) (names : List ℕ) where
-  pub given : 3 ≤ length names → namesIn names ≡ askedFor h names
-  unfolding askedFor
+  pub given : 3 ≤ length names → names_in names ≡ asked_for h names
+  unfolding asked_for
   given some = first _ (yes≤ some) refl
 
-  pub of-table : length names < 3 → tableNames h ≡ askedFor h names
-  unfolding askedFor
-  of-table none = second _ (no≤ none) refl
+  pub of_table : length names < 3 → table_names h ≡ asked_for h names
+  unfolding asked_for
+  of_table none = second _ (no≤ none) refl

@@ -4,8 +4,8 @@ use Rattle.text.proofs.Prelude.{arith, ap, append-nil}
 use native.Mathlib.Numerals.{add-one}
 use Rattle.put.specs.Put.{Wrote}
 use Rattle.put.proofs.Writing.{then}
-use Rattle.log.specs.Fold.{texts}
-use Rattle.log.proofs.Pieces.{texts-append}
+use Rattle.igc_log.specs.Fold.{texts}
+use Rattle.igc_log.proofs.Pieces.{texts_append}
 
 -- the first i elements and the next
 take_next : {A : Type 0} (l : List A) (i : ℕ) {x : A} {xs : List A} → drop i l ≡ x ∷ xs →
@@ -16,9 +16,9 @@ take_next (y ∷ l) zero e = cc
 take_next (y ∷ l) (suc i) e = ap (λ t. y ∷ t) (take_next l i e)
 
 -- a turn: the first i are written, and then the next
-pub in-turn : {A : Type 0} (one : A → List ℕ) {b b' b'' : List ℕ} {at j k : ℕ} (l : List A) (i : ℕ) {x : A} {xs : List A}
+pub in_turn : {A : Type 0} (one : A → List ℕ) {b b' b'' : List ℕ} {at j k : ℕ} (l : List A) (i : ℕ) {x : A} {xs : List A}
     →
     drop i l ≡ x ∷ xs → Wrote b at (texts one (take i l)) b' j → Wrote b' j (one x) b'' k →
     Wrote b at (texts one (take (i + 1) l)) b'' k
 unfolding texts
-in-turn one l i {x} e p q = rw (add-one, take_next l i e, texts-append one (take i l) (x ∷ []), append-nil) (then p q)
+in_turn one l i {x} e p q = rw (add-one, take_next l i e, texts_append one (take i l) (x ∷ []), append-nil) (then p q)

@@ -1,82 +1,82 @@
 -- Fields in plain decimal, each behind the one space that parts it from the field before.
 use Rattle.text.specs.Prelude.{ℕ, code, List, [], ◌∷◌, ◌++◌, padded}
 use Rattle.part.specs.declared.{Part.Part, MaybePart.MaybePart}
-use Rattle.field.specs.Field.{mnemonicText}
+use Rattle.field.specs.Field.{mnemonic_text}
 use Rattle.time.specs.declared.Time.{Time}
 use Rattle.date.specs.declared.Date.{Date}
-use Rattle.raw_coord.specs.Coord.{compassLetter}
+use Rattle.raw_coord.specs.Coord.{compass_letter}
 use Rattle.raw_coord.specs.declared.RawCoord.{RawCoord}
 use Rattle.position.specs.declared.RawPosition.{RawPosition}
 use Rattle.manufacturer.specs.declared.{MaybeLetter.MaybeLetter, MaybeTriple.MaybeTriple}
-use Rattle.b_record.specs.BRecord.{pressureText, gpsText}
+use Rattle.b_record.specs.BRecord.{pressure_text, gps_text}
 use Rattle.b_record.specs.declared.{PressureAlt.PressureAlt, GpsAlt.GpsAlt}
 use Rattle.c_record.specs.declared.MaybeDate.{MaybeDate}
 
 -- A number in plain decimal.
-unfoldable pub numberShown : ℕ → List ℕ
-numberShown n = (code " " ∷ []) ++ padded 1 n
+unfoldable pub number_shown : ℕ → List ℕ
+number_shown n = (code " " ∷ []) ++ padded 1 n
 
 -- A pressure height in plain decimal.
-unfoldable pub pressureShown : PressureAlt → List ℕ
-pressureShown h = (code " " ∷ []) ++ pressureText 1 h
+unfoldable pub pressure_shown : PressureAlt → List ℕ
+pressure_shown h = (code " " ∷ []) ++ pressure_text 1 h
 
 -- A GPS height in plain decimal.
-unfoldable pub gpsShown : GpsAlt → List ℕ
-gpsShown h = (code " " ∷ []) ++ gpsText 1 h
+unfoldable pub gps_shown : GpsAlt → List ℕ
+gps_shown h = (code " " ∷ []) ++ gps_text 1 h
 
 -- A byte as it is.
-unfoldable pub byteShown : ℕ → List ℕ
-byteShown b = (code " " ∷ []) ++ (b ∷ [])
+unfoldable pub byte_shown : ℕ → List ℕ
+byte_shown b = (code " " ∷ []) ++ (b ∷ [])
 
 -- START+LEN, counted from the line's start.
-unfoldable pub placeText : Part → List ℕ
-placeText p = padded 1 p.start ++ ((code "+" ∷ []) ++ padded 1 p.len)
+unfoldable pub place_text : Part → List ℕ
+place_text p = padded 1 p.start ++ ((code "+" ∷ []) ++ padded 1 p.len)
 
 -- A part of the line, as START+LEN.
-unfoldable pub partShown : Part → List ℕ
-partShown p = (code " " ∷ []) ++ placeText p
+unfoldable pub part_shown : Part → List ℕ
+part_shown p = (code " " ∷ []) ++ place_text p
 
 -- `-` for none.
-unfoldable pub maybeShown : MaybePart → List ℕ
-maybeShown MaybePart.Missing = byteShown (code "-")
-maybeShown (MaybePart.At p) = partShown p
+unfoldable pub maybe_shown : MaybePart → List ℕ
+maybe_shown MaybePart.Missing = byte_shown (code "-")
+maybe_shown (MaybePart.At p) = part_shown p
 
 -- Numbers parted by a mark.
-unfoldable pub twoMarked : ℕ → ℕ → ℕ → List ℕ
-twoMarked mark b c = (mark ∷ []) ++ (padded 1 b ++ ((mark ∷ []) ++ padded 1 c))
+unfoldable pub two_marked : ℕ → ℕ → ℕ → List ℕ
+two_marked mark b c = (mark ∷ []) ++ (padded 1 b ++ ((mark ∷ []) ++ padded 1 c))
 
 -- Three numbers parted by a mark.
-unfoldable pub threeShown : ℕ → ℕ → ℕ → ℕ → List ℕ
-threeShown mark a b c = numberShown a ++ twoMarked mark b c
+unfoldable pub three_shown : ℕ → ℕ → ℕ → ℕ → List ℕ
+three_shown mark a b c = number_shown a ++ two_marked mark b c
 
 -- H:M:S.
-unfoldable pub timeShown : Time → List ℕ
-timeShown t = threeShown (code ":") t.hours t.minutes t.seconds
+unfoldable pub time_shown : Time → List ℕ
+time_shown t = three_shown (code ":") t.hours t.minutes t.seconds
 
 -- D/M/Y.
-unfoldable pub dateShown : Date → List ℕ
-dateShown d = threeShown (code "/") d.day d.month d.year
+unfoldable pub date_shown : Date → List ℕ
+date_shown d = three_shown (code "/") d.day d.month d.year
 
 -- A flight date, `-` for none.
-unfoldable pub flightShown : MaybeDate → List ℕ
-flightShown MaybeDate.Missing = byteShown (code "-")
-flightShown (MaybeDate.On d) = dateShown d
+unfoldable pub flight_shown : MaybeDate → List ℕ
+flight_shown MaybeDate.Missing = byte_shown (code "-")
+flight_shown (MaybeDate.On d) = date_shown d
 
 -- Degrees, thousandths and letter.
-unfoldable pub coordShown : RawCoord → List ℕ
-coordShown c = numberShown c.degrees
-    ++ (numberShown c.minute_thousandths ++ byteShown (compassLetter c.sign))
+unfoldable pub coord_shown : RawCoord → List ℕ
+coord_shown c = number_shown c.degrees
+    ++ (number_shown c.minute_thousandths ++ byte_shown (compass_letter c.sign))
 
 -- Latitude's, then longitude's.
-unfoldable pub positionShown : RawPosition → List ℕ
-positionShown p = coordShown p.lat.0 ++ coordShown p.lon.0
+unfoldable pub position_shown : RawPosition → List ℕ
+position_shown p = coord_shown p.lat.0 ++ coord_shown p.lon.0
 
 -- A maker's codes as they are.
-unfoldable pub letterShown : MaybeLetter → List ℕ
-letterShown MaybeLetter.Missing = byteShown (code "-")
-letterShown (MaybeLetter.Letter b) = byteShown b
+unfoldable pub letter_shown : MaybeLetter → List ℕ
+letter_shown MaybeLetter.Missing = byte_shown (code "-")
+letter_shown (MaybeLetter.Letter b) = byte_shown b
 
 -- A maker's triple, `-` for none.
-unfoldable pub tripleShown : MaybeTriple → List ℕ
-tripleShown MaybeTriple.Missing = byteShown (code "-")
-tripleShown (MaybeTriple.Triple t) = (code " " ∷ []) ++ mnemonicText t
+unfoldable pub triple_shown : MaybeTriple → List ℕ
+triple_shown MaybeTriple.Missing = byte_shown (code "-")
+triple_shown (MaybeTriple.Triple t) = (code " " ∷ []) ++ mnemonic_text t

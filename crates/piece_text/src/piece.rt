@@ -1,9 +1,9 @@
 // A field of each kind, in plain decimal, behind the space that parts it from the one before.
 ghost use Rattle.put.specs.Put.{Wrote};
-ghost use Rattle.piece_text.specs.Piece.{numberShown, byteShown, placeText, partShown, maybeShown, twoMarked};
-ghost use Rattle.piece_text.specs.Piece.{threeShown, timeShown, dateShown, flightShown, coordShown};
-ghost use Rattle.piece_text.specs.Piece.{positionShown};
-ghost use Rattle.piece_text.specs.Piece.{letterShown, tripleShown};
+ghost use Rattle.piece_text.specs.Piece.{number_shown, byte_shown, place_text, part_shown, maybe_shown, two_marked};
+ghost use Rattle.piece_text.specs.Piece.{three_shown, time_shown, date_shown, flight_shown, coord_shown};
+ghost use Rattle.piece_text.specs.Piece.{position_shown};
+ghost use Rattle.piece_text.specs.Piece.{letter_shown, triple_shown};
 
 use c_record::MaybeDate;
 use date::Date;
@@ -17,7 +17,7 @@ use time::Time;
 
 // A number in plain decimal.
 pub fn show_number(buf: &mut [u8], at: usize, n: u64) -> usize
-    ensures { Wrote buf.old at (numberShown n) buf.new result }
+    ensures { Wrote buf.old at (number_shown n) buf.new result }
 {
     let next = put_byte(buf, at, b' ');
     put_nat(buf, next, n, 1)
@@ -25,7 +25,7 @@ pub fn show_number(buf: &mut [u8], at: usize, n: u64) -> usize
 
 // A byte as it is.
 pub fn show_byte(buf: &mut [u8], at: usize, b: u8) -> usize
-    ensures { Wrote buf.old at (byteShown b) buf.new result }
+    ensures { Wrote buf.old at (byte_shown b) buf.new result }
 {
     let next = put_byte(buf, at, b' ');
     put_byte(buf, next, b)
@@ -33,7 +33,7 @@ pub fn show_byte(buf: &mut [u8], at: usize, b: u8) -> usize
 
 // START+LEN, counted from the line's start.
 pub fn put_place(buf: &mut [u8], at: usize, p: Part) -> usize
-    ensures { Wrote buf.old at (placeText p) buf.new result }
+    ensures { Wrote buf.old at (place_text p) buf.new result }
 {
     let at_plus = put_nat(buf, at, p.start as u64, 1);
     let at_len = put_byte(buf, at_plus, b'+');
@@ -42,7 +42,7 @@ pub fn put_place(buf: &mut [u8], at: usize, p: Part) -> usize
 
 // START+LEN.
 pub fn show_part(buf: &mut [u8], at: usize, p: Part) -> usize
-    ensures { Wrote buf.old at (partShown p) buf.new result }
+    ensures { Wrote buf.old at (part_shown p) buf.new result }
 {
     let next = put_byte(buf, at, b' ');
     put_place(buf, next, p)
@@ -50,7 +50,7 @@ pub fn show_part(buf: &mut [u8], at: usize, p: Part) -> usize
 
 // The same, or a dash.
 pub fn show_maybe(buf: &mut [u8], at: usize, p: MaybePart) -> usize
-    ensures { Wrote buf.old at (maybeShown p) buf.new result }
+    ensures { Wrote buf.old at (maybe_shown p) buf.new result }
 {
     match p {
         MaybePart::Missing => show_byte(buf, at, b'-'),
@@ -60,7 +60,7 @@ pub fn show_maybe(buf: &mut [u8], at: usize, p: MaybePart) -> usize
 
 // Two numbers behind a first one, each behind the mark.
 fn put_two(buf: &mut [u8], at: usize, mark: u8, b: u8, c: u8) -> usize
-    ensures { Wrote buf.old at (twoMarked mark b c) buf.new result }
+    ensures { Wrote buf.old at (two_marked mark b c) buf.new result }
 {
     let at_second = put_byte(buf, at, mark);
     let next = put_nat(buf, at_second, b as u64, 1);
@@ -69,7 +69,7 @@ fn put_two(buf: &mut [u8], at: usize, mark: u8, b: u8, c: u8) -> usize
 }
 
 fn show_three(buf: &mut [u8], at: usize, mark: u8, a: u8, b: u8, c: u8) -> usize
-    ensures { Wrote buf.old at (threeShown mark a b c) buf.new result }
+    ensures { Wrote buf.old at (three_shown mark a b c) buf.new result }
 {
     let next = show_number(buf, at, a as u64);
     put_two(buf, next, mark, b, c)
@@ -77,21 +77,21 @@ fn show_three(buf: &mut [u8], at: usize, mark: u8, a: u8, b: u8, c: u8) -> usize
 
 // H:M:S.
 pub fn show_time(buf: &mut [u8], at: usize, t: Time) -> usize
-    ensures { Wrote buf.old at (timeShown t) buf.new result }
+    ensures { Wrote buf.old at (time_shown t) buf.new result }
 {
     show_three(buf, at, b':', t.hours, t.minutes, t.seconds)
 }
 
 // D/M/Y.
 pub fn show_date(buf: &mut [u8], at: usize, d: Date) -> usize
-    ensures { Wrote buf.old at (dateShown d) buf.new result }
+    ensures { Wrote buf.old at (date_shown d) buf.new result }
 {
     show_three(buf, at, b'/', d.day, d.month, d.year)
 }
 
 // A flight date, or a dash.
 pub fn show_flight(buf: &mut [u8], at: usize, flight: MaybeDate) -> usize
-    ensures { Wrote buf.old at (flightShown flight) buf.new result }
+    ensures { Wrote buf.old at (flight_shown flight) buf.new result }
 {
     match flight {
         MaybeDate::Missing => show_byte(buf, at, b'-'),
@@ -101,7 +101,7 @@ pub fn show_flight(buf: &mut [u8], at: usize, flight: MaybeDate) -> usize
 
 // Degrees, thousandths of a minute, letter.
 fn show_coord(buf: &mut [u8], at: usize, c: RawCoord) -> usize
-    ensures { Wrote buf.old at (coordShown c) buf.new result }
+    ensures { Wrote buf.old at (coord_shown c) buf.new result }
 {
     let sign = c.sign;
     let at_thousandths = show_number(buf, at, c.degrees as u64);
@@ -111,7 +111,7 @@ fn show_coord(buf: &mut [u8], at: usize, c: RawCoord) -> usize
 
 // Latitude, then longitude.
 pub fn show_position(buf: &mut [u8], at: usize, pos: RawPosition) -> usize
-    ensures { Wrote buf.old at (positionShown pos) buf.new result }
+    ensures { Wrote buf.old at (position_shown pos) buf.new result }
 {
     let lat = pos.lat.0;
     let lon = pos.lon.0;
@@ -121,7 +121,7 @@ pub fn show_position(buf: &mut [u8], at: usize, pos: RawPosition) -> usize
 
 // A maker's letter as it is, or `-`.
 pub fn show_letter(buf: &mut [u8], at: usize, code: MaybeLetter) -> usize
-    ensures { Wrote buf.old at (letterShown code) buf.new result }
+    ensures { Wrote buf.old at (letter_shown code) buf.new result }
 {
     match code {
         MaybeLetter::Missing => show_byte(buf, at, b'-'),
@@ -131,7 +131,7 @@ pub fn show_letter(buf: &mut [u8], at: usize, code: MaybeLetter) -> usize
 
 // A maker's triple as it is, or `-`.
 pub fn show_triple(buf: &mut [u8], at: usize, code: MaybeTriple) -> usize
-    ensures { Wrote buf.old at (tripleShown code) buf.new result }
+    ensures { Wrote buf.old at (triple_shown code) buf.new result }
 {
     match code {
         MaybeTriple::Missing => show_byte(buf, at, b'-'),

@@ -1,10 +1,10 @@
 // Values of extensions, looked up by name.
 ghost use Rattle.std.specs.Prelude.{◌≡◌, ◌<◌, suc, ◌∷◌, length, drop};
-ghost use Rattle.part.specs.Part.{foundRes};
+ghost use Rattle.part.specs.Part.{found_res};
 ghost use Rattle.put.specs.Put.{Wrote};
-ghost use Rattle.table.specs.Table.{defsOf};
-ghost use Rattle.log.specs.Fold.{texts};
-ghost use Rattle.piece_text.specs.Value.{foundText, valueShown, tableNames, askedFor};
+ghost use Rattle.table.specs.Table.{defs_of};
+ghost use Rattle.igc_log.specs.Fold.{texts};
+ghost use Rattle.piece_text.specs.Value.{found_text, value_shown, table_names, asked_for};
 
 use crate::piece::put_place;
 use field::Mnemonic;
@@ -16,7 +16,7 @@ use table::Table;
 
 // 0 with the value's place behind `@`, or the refusal's number.
 fn put_found(buf: &mut [u8], at: usize, found: Found) -> usize
-    ensures { Wrote buf.old at (foundText (foundRes found)) buf.new result }
+    ensures { Wrote buf.old at (found_text (found_res found)) buf.new result }
 {
     match found {
         Found::At(value) => {
@@ -38,7 +38,7 @@ pub fn show_value(
     name: Mnemonic,
     line: &[u8],
 ) -> usize
-    ensures { Wrote buf.old at (valueShown base held rest line.now name)
+    ensures { Wrote buf.old at (value_shown base held rest line.now name)
         buf.new result }
 {
     let found = held.find(base, rest, name, line);
@@ -50,7 +50,7 @@ pub fn show_value(
 
 // How many of the 99 slots count.
 pub fn definition_count(table: Table) -> usize
-    ensures { result ≡ length (defsOf table) }
+    ensures { result ≡ length (defs_of table) }
 {
     if 99 < table.count {
         return 99;
@@ -60,7 +60,7 @@ pub fn definition_count(table: Table) -> usize
 
 // How many names the table in force has.
 fn table_count(held: Held) -> usize
-    ensures { result ≡ length (tableNames held) }
+    ensures { result ≡ length (table_names held) }
 {
     let slot = held.slot;
     let table = held.table;
@@ -73,7 +73,7 @@ fn table_count(held: Held) -> usize
 
 // How many names are asked for: those given, three bytes each, or where there are none those of the table in force.
 fn asked_count(held: Held, names: &[u8]) -> usize
-    ensures { result ≡ length (askedFor held names.now) }
+    ensures { result ≡ length (asked_for held names.now) }
 {
     if 3 <= names.len() {
         return names.len() / 3;
@@ -83,8 +83,8 @@ fn asked_count(held: Held, names: &[u8]) -> usize
 
 // The i-th of them.
 fn asked_at(held: Held, names: &[u8], i: usize) -> Mnemonic
-    requires { i < length (askedFor held names.now) }
-    ensures { drop i (askedFor held names.now) ≡ result ∷ drop (suc i) (askedFor held names.now) }
+    requires { i < length (asked_for held names.now) }
+    ensures { drop i (asked_for held names.now) ≡ result ∷ drop (suc i) (asked_for held names.now) }
 {
     if names.len() < 3 {
         let table = held.table;
@@ -106,7 +106,7 @@ pub fn show_values(
     line: &[u8],
 ) -> usize
     ensures { Wrote buf.old
-        at (texts (valueShown base held rest line.now) (askedFor held names.now))
+        at (texts (value_shown base held rest line.now) (asked_for held names.now))
         buf.new result }
 {
     let n = asked_count(held, names);

@@ -1,34 +1,34 @@
 -- A position: latitude first.
 use Rattle.text.specs.Prelude.{ℕ, Bool, List, ◌++◌, Res, ok, no, bind, ◌∧?◌, columns}
 use Rattle.field.specs.Field.{sized, field}
-use Rattle.coord.specs.Coord.{latitudeIn, longitudeIn, latitudeText, longitudeText, latitudeBook, longitudeBook}
+use Rattle.coord.specs.Coord.{latitude_in, longitude_in, latitude_text, longitude_text, latitude_book, longitude_book}
 use Rattle.position.specs.declared.{RawPosition.RawPosition, PositionRead.PositionRead}
 
 -- Latitude, then longitude.
-unfoldable pub readBoth : List ℕ → Res RawPosition
-readBoth s =
-    bind (columns 0 8 latitudeIn s) (λ lat.
-    bind (columns 8 17 longitudeIn s) (λ lon.
+unfoldable pub read_both : List ℕ → Res RawPosition
+read_both s =
+    bind (columns 0 8 latitude_in s) (λ lat.
+    bind (columns 8 17 longitude_in s) (λ lon.
     ok (record { lat = lat; lon = lon })))
 
 -- A position of 17 characters.
-unfoldable pub readPosition : List ℕ → Res RawPosition
-readPosition = field 17 readBoth
+unfoldable pub read_position : List ℕ → Res RawPosition
+read_position = field 17 read_both
 
 -- The same in a text that is known to be ASCII.
-unfoldable pub positionIn : List ℕ → Res RawPosition
-positionIn = sized 17 readBoth
+unfoldable pub position_in : List ℕ → Res RawPosition
+position_in = sized 17 read_both
 
 -- The latitude's text, then the longitude's.
-unfoldable pub positionText : RawPosition → List ℕ
-positionText p = latitudeText p.lat ++ longitudeText p.lon
+unfoldable pub position_text : RawPosition → List ℕ
+position_text p = latitude_text p.lat ++ longitude_text p.lon
 
 -- By the book: both coordinates are.
-unfoldable pub positionBook : RawPosition → Bool
-positionBook p = latitudeBook p.lat ∧? longitudeBook p.lon
+unfoldable pub position_book : RawPosition → Bool
+position_book p = latitude_book p.lat ∧? longitude_book p.lon
 
 -- ---- the answers of the code
 
-abbrev pub positionRes : PositionRead → Res RawPosition
-positionRes (PositionRead.Ok v) = ok v
-positionRes (PositionRead.Refused n) = no n
+abbrev pub position_res : PositionRead → Res RawPosition
+position_res (PositionRead.Ok v) = ok v
+position_res (PositionRead.Refused n) = no n

@@ -3,20 +3,20 @@ ghost use Rattle.std.specs.Prelude.{◌≡◌};
 ghost use Rattle.text.specs.Res.{ok};
 ghost use Rattle.put.specs.Put.{Wrote};
 ghost use Rattle.print.specs.Print.{Prints};
-ghost use Rattle.position.specs.Position.{readPosition, positionIn, positionText, positionBook, positionRes};
+ghost use Rattle.position.specs.Position.{read_position, position_in, position_text, position_book, position_res};
 
 use coord::{LatitudeRead, LongitudeRead, RawLatitude, RawLongitude};
 use field::is_ascii;
 use print::printed::Printed;
 use text::refusal::Refusal;
 
-#[derive(Drop)]
+#[derive(Clone, Copy)]
 pub struct RawPosition {
     pub lat: RawLatitude,
     pub lon: RawLongitude,
 }
 
-#[derive(Drop)]
+#[derive(Clone, Copy)]
 pub enum PositionRead {
     Ok(RawPosition),
     Refused(Refusal),
@@ -25,7 +25,7 @@ pub enum PositionRead {
 impl RawPosition {
     // A position in a text that the caller knows to be ASCII: the test is not made again.
     pub fn parse_ascii(text: &[u8]) -> PositionRead
-        ensures { positionRes result ≡ positionIn text.now }
+        ensures { position_res result ≡ position_in text.now }
     {
         if text.len() != 17 {
             return PositionRead::Refused(Refusal::WrongLength);
@@ -42,7 +42,7 @@ impl RawPosition {
 
     // Reads a position of seventeen bytes, the latitude first.
     pub fn parse(text: &[u8]) -> PositionRead
-        ensures { positionRes result ≡ readPosition text.now }
+        ensures { position_res result ≡ read_position text.now }
     {
         if text.len() != 17 {
             return PositionRead::Refused(Refusal::WrongLength);
@@ -55,7 +55,7 @@ impl RawPosition {
 
     // Both of its coordinates are by the book.
     pub fn by_the_book(self) -> bool
-        ensures { result ≡ positionBook self }
+        ensures { result ≡ position_book self }
     {
         if self.lat.by_the_book() {
             return self.lon.by_the_book();
@@ -65,7 +65,7 @@ impl RawPosition {
 
     // The text as a piece, from a place on.
     pub fn put(self, buf: &mut [u8], at: usize) -> usize
-        ensures { Wrote buf.old at (positionText self) buf.new result }
+        ensures { Wrote buf.old at (position_text self) buf.new result }
     {
         let next = self.lat.put(buf, at);
         self.lon.put(buf, next)
@@ -73,7 +73,7 @@ impl RawPosition {
 
     // Prints it.
     pub fn print(self, buf: &mut [u8]) -> Printed
-        ensures { Prints (ok (positionText self)) buf.old buf.new result }
+        ensures { Prints (ok (position_text self)) buf.old buf.new result }
     {
         if buf.len() < self.put(&mut [], 0) {
             return Printed::Refused(Refusal::NoRoom);

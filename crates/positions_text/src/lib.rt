@@ -1,8 +1,8 @@
 // The finer positions of a log as text, a line for each accepted fix.
 ghost use Rattle.put.specs.Put.{Wrote};
-ghost use Rattle.records.specs.Record.{readingRes};
-ghost use Rattle.positions_text.specs.Positions.{coordShown, latitudeShown, longitudeShown, placeShown};
-ghost use Rattle.positions_text.specs.Positions.{refusalShown, positionShown, fixShown, positionsLine};
+ghost use Rattle.records.specs.Record.{reading_res};
+ghost use Rattle.positions_text.specs.Positions.{coord_shown, latitude_shown, longitude_shown, place_shown};
+ghost use Rattle.positions_text.specs.Positions.{refusal_shown, position_shown, fix_shown, positions_line};
 
 use b_record::BRecord;
 use finer::{
@@ -16,7 +16,7 @@ use text::refusal::MaybePlace;
 
 // The number and its n, each behind a space.
 fn put_coord(buf: &mut [u8], at: usize, coord: FinerCoord) -> usize
-    ensures { Wrote buf.old at (coordShown coord) buf.new result }
+    ensures { Wrote buf.old at (coord_shown coord) buf.new result }
 {
     let at_value = put_byte(buf, at, b' ');
     let at_space = put_int(buf, at_value, coord.value, 1);
@@ -26,7 +26,7 @@ fn put_coord(buf: &mut [u8], at: usize, coord: FinerCoord) -> usize
 
 // The one place where the number of a latitude comes out.
 fn put_latitude(buf: &mut [u8], at: usize, lat: FinerLatitude) -> usize
-    ensures { Wrote buf.old at (latitudeShown lat) buf.new result }
+    ensures { Wrote buf.old at (latitude_shown lat) buf.new result }
 {
     let coord = lat.0;
     put_coord(buf, at, coord)
@@ -34,7 +34,7 @@ fn put_latitude(buf: &mut [u8], at: usize, lat: FinerLatitude) -> usize
 
 // The one place where the number of a longitude comes out.
 fn put_longitude(buf: &mut [u8], at: usize, lon: FinerLongitude) -> usize
-    ensures { Wrote buf.old at (longitudeShown lon) buf.new result }
+    ensures { Wrote buf.old at (longitude_shown lon) buf.new result }
 {
     let coord = lon.0;
     put_coord(buf, at, coord)
@@ -42,7 +42,7 @@ fn put_longitude(buf: &mut [u8], at: usize, lon: FinerLongitude) -> usize
 
 // `@` and the place of the byte to look at.
 fn put_place(buf: &mut [u8], at: usize, place: MaybePlace) -> usize
-    ensures { Wrote buf.old at (placeShown place) buf.new result }
+    ensures { Wrote buf.old at (place_shown place) buf.new result }
 {
     match place {
         MaybePlace::At(k) => {
@@ -55,7 +55,7 @@ fn put_place(buf: &mut [u8], at: usize, place: MaybePlace) -> usize
 
 // The number of a refusal, and its place.
 fn put_refusal(buf: &mut [u8], at: usize, no: FinerRefusal) -> usize
-    ensures { Wrote buf.old at (refusalShown no) buf.new result }
+    ensures { Wrote buf.old at (refusal_shown no) buf.new result }
 {
     let at_number = put_byte(buf, at, b' ');
     let at_place = put_nat(buf, at_number, no.number() as u64, 1);
@@ -64,7 +64,7 @@ fn put_refusal(buf: &mut [u8], at: usize, no: FinerRefusal) -> usize
 
 // Latitude and then longitude, or the refusal.
 fn put_position(buf: &mut [u8], at: usize, read: FinerPositionRead) -> usize
-    ensures { Wrote buf.old at (positionShown read) buf.new result }
+    ensures { Wrote buf.old at (position_shown read) buf.new result }
 {
     match read {
         FinerPositionRead::Ok(position) => {
@@ -79,7 +79,7 @@ fn put_position(buf: &mut [u8], at: usize, read: FinerPositionRead) -> usize
 
 // The line of a fix.
 fn put_fix(buf: &mut [u8], at: usize, number: u64, line: &[u8], held: Tables, fix: BRecord) -> usize
-    ensures { Wrote buf.old at (fixShown number line.now held fix) buf.new result }
+    ensures { Wrote buf.old at (fix_shown number line.now held fix) buf.new result }
 {
     let read = FinerPosition::of(fix, held, line);
     let at_position = put_nat(buf, at, number, 1);
@@ -96,7 +96,7 @@ pub fn put_line(
     reading: Reading,
     held: Tables,
 ) -> usize
-    ensures { Wrote buf.old at (positionsLine number line.now (readingRes reading) held)
+    ensures { Wrote buf.old at (positions_line number line.now (reading_res reading) held)
         buf.new result }
 {
     match reading.fix() {

@@ -5,21 +5,21 @@ use Rattle.print.specs.declared.printed.Printed.{Printed}
 use Rattle.print.specs.declared.printed.Printed.TheVariants.{Written, Refused}
 
 -- The length written: the text's own refusal first, then 10 exactly where the text is longer than the bytes lent.
-unfoldable pub answerTo : Res (List ℕ) → List ℕ → Res ℕ
-answerTo m b = bind m (λ t. guard (length t ≤? length b) NoRoom (ok (length t)))
+unfoldable pub answer_to : Res (List ℕ) → List ℕ → Res ℕ
+answer_to m b = bind m (λ t. guard (length t ≤? length b) NoRoom (ok (length t)))
 
 -- The bytes afterwards: the text and then what stood behind it; a refused call changes nothing.
-unfoldable pub leftBy : Res (List ℕ) → List ℕ → List ℕ
-leftBy (ok t) b = pick (length t ≤? length b) (t ++ drop (length t) b) b
-leftBy (no n) b = b
+unfoldable pub left_by : Res (List ℕ) → List ℕ → List ℕ
+left_by (ok t) b = pick (length t ≤? length b) (t ++ drop (length t) b) b
+left_by (no n) b = b
 
 -- ---- the answers of the code
 
-abbrev pub printedRes : Printed → Res ℕ
-printedRes (Written n) = ok n
-printedRes (Refused n) = no n
+abbrev pub printed_res : Printed → Res ℕ
+printed_res (Written n) = ok n
+printed_res (Refused n) = no n
 
 -- A printer of m answers r and leaves b' where b was lent.
 pub record Prints (m : Res (List ℕ)) (b b' : List ℕ) (r : Printed) : Type 0 where
-  pub answer : printedRes r ≡ answerTo m b
-  pub left : b' ≡ leftBy m b
+  pub answer : printed_res r ≡ answer_to m b
+  pub left : b' ≡ left_by m b

@@ -4,6 +4,6 @@ use Rattle.print.specs.declared.number.Signed.{Signed}
 use Rattle.print.specs.declared.number.Signed.TheVariants.{Plus, Minus}
 
 -- A number by its sign and its distance from 0.
-abbrev pub splitOf : ℤ → Signed
-splitOf (pos n) = Plus n
-splitOf (negsuc n) = Minus (suc n)
+abbrev pub split_of : ℤ → Signed
+split_of (pos n) = Plus n
+split_of (negsuc n) = Minus (suc n)

@@ -2,7 +2,7 @@
 ghost use Rattle.std.specs.Prelude.{◌≡◌, ◌-◌, replicate};
 ghost use Rattle.text.specs.Number.{digits, places_of, padded, signed};
 ghost use Rattle.put.specs.Put.{Wrote};
-ghost use Rattle.print.specs.Signed.{splitOf};
+ghost use Rattle.print.specs.Signed.{split_of};
 
 use put::{after, put_byte};
 
@@ -68,14 +68,14 @@ pub fn put_nat(buf: &mut [u8], at: usize, n: u64, width: usize) -> usize
 }
 
 // A signed number by its sign and its distance from 0.
-#[derive(Drop)]
+#[derive(Clone, Copy)]
 enum Signed {
     Plus(u64),
     Minus(u64),
 }
 
 fn split(z: i64) -> Signed
-    ensures { result ≡ splitOf z }
+    ensures { result ≡ split_of z }
 {
     if z < 0 {
         Signed::Minus((-(z + 1)) as u64 + 1)

@@ -1,7 +1,7 @@
 // Printers: the whole text into lent bytes, or a refusal that leaves them as they were.
 ghost use Rattle.text.specs.Res.{ok};
 ghost use Rattle.text.specs.Number.{signed};
-ghost use Rattle.part.specs.Part.{partText};
+ghost use Rattle.part.specs.Part.{part_text};
 ghost use Rattle.print.specs.Print.{Prints};
 
 use crate::number::put_int;
@@ -10,7 +10,7 @@ use put::put_part;
 use text::refusal::Refusal;
 
 // The length written, or the refusal.
-#[derive(Drop)]
+#[derive(Clone, Copy)]
 pub enum Printed {
     Written(usize),
     Refused(Refusal),
@@ -28,7 +28,7 @@ pub fn print_int(z: i64, width: usize, buf: &mut [u8]) -> Printed
 
 // Prints a part of the line.
 pub fn print_part(p: Part, line: &[u8], buf: &mut [u8]) -> Printed
-    ensures { Prints (partText p line.now) buf.old buf.new result }
+    ensures { Prints (part_text p line.now) buf.old buf.new result }
 {
     match p.find(line) {
         Found::Refused(no) => Printed::Refused(no),

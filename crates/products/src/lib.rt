@@ -2,9 +2,9 @@
 // the next.
 ghost use Rattle.std.specs.Prelude.{◌≡◌, true, length};
 ghost use Rattle.put.specs.Put.{Wrote};
-ghost use Rattle.records.specs.Record.{readingRes};
-ghost use Rattle.products.specs.Product.{productLine, closing};
-ghost use Rattle.products.specs.Feed.{atFirst, isReady, FedOf, Feeds};
+ghost use Rattle.records.specs.Record.{reading_res};
+ghost use Rattle.products.specs.Product.{product_line, closing};
+ghost use Rattle.products.specs.Feed.{at_first_of, is_ready_of, FedOf, Feeds};
 
 use cursor::Cursor;
 use held::tables::Tables;
@@ -13,7 +13,7 @@ use trailer_text::Trailer;
 use walk::turn::read_at;
 
 // What is asked of a log.
-#[derive(Drop)]
+#[derive(Clone, Copy)]
 pub enum Product {
     Listing,
     Fields,
@@ -22,7 +22,7 @@ pub enum Product {
 
 // What goes from piece to piece: the tables in force, the place of the next line, and the figures over the lines
 // before.
-#[derive(Drop)]
+#[derive(Clone, Copy)]
 pub struct Carried {
     pub held: Tables,
     pub at: Cursor,
@@ -30,7 +30,7 @@ pub struct Carried {
 }
 
 // What is carried on, how many bytes of the piece were taken, and where the text of their lines ends.
-#[derive(Drop)]
+#[derive(Clone, Copy)]
 pub struct Fed {
     pub carried: Carried,
     pub taken: usize,
@@ -49,7 +49,7 @@ fn put_line(
     names: &[u8],
 ) -> usize
     ensures { Wrote buf.old at
-        (productLine product names.now number line.now (readingRes reading) held)
+        (product_line product names.now number line.now (reading_res reading) held)
         buf.new result }
 {
     match product {
@@ -61,7 +61,7 @@ fn put_line(
 
 // Lines are taken while their text has room.
 fn put_ready(product: Product, c: Carried, lines: &[u8], names: &[u8], buf: &mut [u8]) -> Fed
-    requires { isReady c (length lines.now) ≡ true }
+    requires { is_ready_of c (length lines.now) ≡ true }
     ensures { FedOf true product names.now c lines.now buf.old buf.new result }
 {
     let base = c.at.place;
@@ -107,7 +107,7 @@ fn put_ready(product: Product, c: Carried, lines: &[u8], names: &[u8], buf: &mut
 
 // No count passes 64 bits over n bytes more.
 fn is_ready(c: Carried, n: usize) -> bool
-    ensures { result ≡ isReady c n }
+    ensures { result ≡ is_ready_of c n }
 {
     if 0xffff_ffff_ffff_ffff - c.at.place < n {
         return false;
@@ -123,7 +123,7 @@ fn is_ready(c: Carried, n: usize) -> bool
 
 // Before the first piece.
 pub fn new() -> Carried
-    ensures { result ≡ atFirst }
+    ensures { result ≡ at_first_of }
 {
     let held = Tables::new();
     let at = Cursor::new();

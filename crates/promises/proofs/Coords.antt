@@ -2,59 +2,59 @@
 use Rattle.text.specs.Prelude.{ℕ, ◌+◌, ◌≡◌, Bool, List, [], ◌∷◌, ◌++◌, length, drop, ◌∨?◌, byte, cut}
 use Rattle.text.proofs.Prelude.{arith, refl, sym, is=}
 use native.Mathlib.Nat.{zero-add}
-use Rattle.text.proofs.Finds.{Finds, finds-ok, finds-no, finds-bind, finds-guard, finds-pick}
-use Rattle.raw_coord.specs.Coord.{compassLetter, sign_of, coordOf, lettered, readCoord, coordText}
-use Rattle.coord.specs.Coord.{latitude, longitude, latitudeIn, longitudeIn, latitudeText, longitudeText}
+use Rattle.text.proofs.Finds.{Finds, finds_ok, finds_no, finds_bind, finds_guard, finds_pick}
+use Rattle.raw_coord.specs.Coord.{compass_letter, sign_of, coord_of, lettered, read_coord, coord_text}
+use Rattle.coord.specs.Coord.{latitude, longitude, latitude_in, longitude_in, latitude_text, longitude_text}
 use Rattle.raw_coord.specs.declared.Compass.{Compass}
 use Rattle.raw_coord.specs.declared.Compass.TheVariants.{North, South, East, West}
-use Rattle.position.specs.Position.{readBoth, readPosition, positionText}
-use Rattle.promises.specs.Odd.{coordPlus, positionPlus}
-use Rattle.promises.proofs.Columns.{cut-joined, last_byte, finds-columns, finds-sized, finds-field}
-use Rattle.promises.proofs.Copies.{Copy, copy-append, copy-columns, copy_rest, copy-last, finds-copy}
-use Rattle.promises.proofs.Numbers.{nat-copy}
+use Rattle.position.specs.Position.{read_both, read_position, position_text}
+use Rattle.promises.specs.Odd.{coord_plus, position_plus}
+use Rattle.promises.proofs.Columns.{cut_joined, last_byte, finds_columns, finds_sized, finds_field}
+use Rattle.promises.proofs.Copies.{Copy, copy_append, copy_columns, copy_rest, copy_last, finds_copy}
+use Rattle.promises.proofs.Numbers.{nat_copy}
 
-pub sign_same : (x y : Compass) (l : ℕ) → Finds (sign_of x y l) (λ c. compassLetter c ≡ l)
+pub sign_same : (x y : Compass) (l : ℕ) → Finds (sign_of x y l) (λ c. compass_letter c ≡ l)
 unfolding sign_of
-sign_same x y l = finds-pick (λ e. finds-ok (sym (is= e)))
-    (λ _. finds-pick (λ e. finds-ok (sym (is= e))) (λ _. finds-no))
+sign_same x y l = finds_pick (λ e. finds_ok (sym (is= e)))
+    (λ _. finds_pick (λ e. finds_ok (sym (is= e))) (λ _. finds_no))
 
 -- w columns from the start on, and then those behind them
-copy-front : (s : List ℕ) (w : ℕ) {o p : Bool} {t u : List ℕ} → Copy o (cut 0 w s) t → Copy p (drop w s) u →
+copy_front : (s : List ℕ) (w : ℕ) {o p : Bool} {t u : List ℕ} → Copy o (cut 0 w s) t → Copy p (drop w s) u →
     Copy (o ∨? p) s (t ++ u)
-copy-front s w c d = let j : cut 0 w s ++ drop w s ≡ s = rw zero-add at (cut-joined 0 w s) in rw j at (copy-append c d)
+copy_front s w c d = let j : cut 0 w s ++ drop w s ≡ s = rw zero-add at (cut_joined 0 w s) in rw j at (copy_append c d)
 
-pub coord-makes : (d limit g t : ℕ) (c : Compass) →
-    Finds (coordOf limit g t c)
-    (λ v. coordText d v ≡ coordText d (record { degrees = g; minute_thousandths = t; sign = c }))
-unfolding coordOf
-coord-makes d limit g t c = finds-guard _ (λ _. finds-ok refl)
+pub coord_makes : (d limit g t : ℕ) (c : Compass) →
+    Finds (coord_of limit g t c)
+    (λ v. coord_text d v ≡ coord_text d (record { degrees = g; minute_thousandths = t; sign = c }))
+unfolding coord_of
+coord_makes d limit g t c = finds_guard _ (λ _. finds_ok refl)
 
-coord-copy : (d limit : ℕ) (x y : Compass) (s : List ℕ) → length s ≡ d + 6 →
-    Finds (readCoord d limit x y s) (λ c. Copy (coordPlus d s) s (coordText d c))
-unfolding lettered readCoord coordPlus coordText
-coord-copy d limit x y s l =
-    finds-bind (rw zero-add at (nat-copy 0 d 255 s (omega arith))) (λ g cg.
-    finds-bind (nat-copy d 5 65535 s (omega arith)) (λ t ct.
-    finds-bind (sign_same x y (byte (d + 5) s)) (λ c ec.
-    let end : compassLetter c ∷ [] ≡ drop (d + 5) s = rw ec (last_byte (d + 5) s (omega arith)) in
-    finds-copy (coordText d) (coord-makes d limit g t c) (copy-front s d cg (rw (← end) at (copy_rest s d 5 ct))))))
+coord_copy : (d limit : ℕ) (x y : Compass) (s : List ℕ) → length s ≡ d + 6 →
+    Finds (read_coord d limit x y s) (λ c. Copy (coord_plus d s) s (coord_text d c))
+unfolding lettered read_coord coord_plus coord_text
+coord_copy d limit x y s l =
+    finds_bind (rw zero-add at (nat_copy 0 d 255 s (omega arith))) (λ g cg.
+    finds_bind (nat_copy d 5 65535 s (omega arith)) (λ t ct.
+    finds_bind (sign_same x y (byte (d + 5) s)) (λ c ec.
+    let end : compass_letter c ∷ [] ≡ drop (d + 5) s = rw ec (last_byte (d + 5) s (omega arith)) in
+    finds_copy (coord_text d) (coord_makes d limit g t c) (copy_front s d cg (rw (← end) at (copy_rest s d 5 ct))))))
 
 -- ---- latitude and longitude, types apart
 
-latitude-copy : (s : List ℕ) → Finds (latitudeIn s) (λ l. Copy (coordPlus 2 s) s (latitudeText l))
-unfolding latitudeIn latitude
-latitude-copy s = finds-bind (finds-sized _ s 8 (coord-copy 2 90 North South s)) (λ c e. finds-ok e)
+latitude_copy : (s : List ℕ) → Finds (latitude_in s) (λ l. Copy (coord_plus 2 s) s (latitude_text l))
+unfolding latitude_in latitude
+latitude_copy s = finds_bind (finds_sized _ s 8 (coord_copy 2 90 North South s)) (λ c e. finds_ok e)
 
-longitude-copy : (s : List ℕ) → Finds (longitudeIn s) (λ l. Copy (coordPlus 3 s) s (longitudeText l))
-unfolding longitudeIn longitude
-longitude-copy s = finds-bind (finds-sized _ s 9 (coord-copy 3 180 East West s)) (λ c e. finds-ok e)
+longitude_copy : (s : List ℕ) → Finds (longitude_in s) (λ l. Copy (coord_plus 3 s) s (longitude_text l))
+unfolding longitude_in longitude
+longitude_copy s = finds_bind (finds_sized _ s 9 (coord_copy 3 180 East West s)) (λ c e. finds_ok e)
 
 -- ---- a position
 
-pub position-copy : (s : List ℕ) → Finds (readPosition s) (λ p. Copy (positionPlus s) s (positionText p))
-unfolding readPosition readBoth positionPlus positionText
-position-copy s =
-    finds-field _ s 17 (λ l.
-    finds-bind (finds-columns _ s 0 8 (latitude-copy (cut 0 8 s))) (λ lat ca.
-    finds-bind (finds-columns _ s 8 17 (longitude-copy (cut 8 17 s))) (λ lon co.
-    finds-ok (copy-columns s 0 8 ca (copy-last s 8 17 l co)))))
+pub position_copy : (s : List ℕ) → Finds (read_position s) (λ p. Copy (position_plus s) s (position_text p))
+unfolding read_position read_both position_plus position_text
+position_copy s =
+    finds_field _ s 17 (λ l.
+    finds_bind (finds_columns _ s 0 8 (latitude_copy (cut 0 8 s))) (λ lat ca.
+    finds_bind (finds_columns _ s 8 17 (longitude_copy (cut 8 17 s))) (λ lon co.
+    finds_ok (copy_columns s 0 8 ca (copy_last s 8 17 l co)))))

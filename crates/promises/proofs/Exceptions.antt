@@ -1,73 +1,73 @@
 -- Each exception is needed, by computation.
-use Rattle.text.specs.Prelude.{bind, moved, guard, pick, placed, movedBy, ◌≤?◌, ◌=?◌, ◌∧?◌, ◌∨?◌, cut, columns, readNat}
-use Rattle.text.specs.Prelude.{readInt, readDigits}
-use Rattle.text.specs.Prelude.{isDigit, allDigits, firstOther, zeros, padded, signed, digits, places_of, valueFrom}
+use Rattle.text.specs.Prelude.{bind, moved, guard, pick, placed, moved_by, ◌≤?◌, ◌=?◌, ◌∧?◌, ◌∨?◌, cut, columns, read_nat_of}
+use Rattle.text.specs.Prelude.{read_int_of, read_digits_of}
+use Rattle.text.specs.Prelude.{is_digit_of, all_digits_of, first_other_of, zeros, padded, signed, digits, places_of, value_from}
 use Rattle.text.proofs.Prelude.{refl}
-use Rattle.part.specs.Part.{bytes_of, findPart, findMaybe, text_of, partText, maybeText, restFrom, nameFrom}
-use Rattle.text.specs.Number.{placesIn}
-use Rattle.field.specs.Field.{isAscii, sized, asciiIn, ascii, field, mnemonicText}
-use Rattle.three.specs.Three.{readThree, threeText}
-use Rattle.time.specs.Time.{timeOf, readTime, timeText}
-use Rattle.date.specs.Date.{dateOf, readDate, dateText}
+use Rattle.part.specs.Part.{bytes_of, find_part, find_maybe, text_of, part_text, maybe_text, rest_from, name_from}
+use Rattle.text.specs.Number.{places_in}
+use Rattle.field.specs.Field.{is_ascii_of, sized, ascii_in, ascii, field, mnemonic_text}
+use Rattle.three.specs.Three.{read_three_of, three_text}
+use Rattle.time.specs.Time.{time_of, read_time_of, time_text}
+use Rattle.date.specs.Date.{date_of, read_date, date_text}
 use Rattle.raw_coord.specs.Coord as raw
 use Rattle.coord.specs.Coord as coord
 use Rattle.position.specs.Position as position
 use Rattle.manufacturer.specs.Maker as maker
-use Rattle.extension.specs.Extension.{readDefinition, readExtension, extensionText}
-use Rattle.table.specs.Table.{table_of, readDefs, read_body, isTable, readTable, defsOf, defsText, tableBody, tableText}
-use Rattle.table.specs.Table.{tableRead}
-use Rattle.a_record.specs.ARecord.{aNew, aOf, letterForm, read_a, tripleText, aBody, aText}
-use Rattle.b_record.specs.BRecord.{validLetter, valid_of, readHeights, readFix, readB, tailText, bBody, bText}
-use Rattle.c_record.specs.CRecord.{turns, readFlight, readTask, readDeclaration, flightText, taskText, declarationBody}
-use Rattle.c_record.specs.CRecord.{declarationText}
-use Rattle.c_turnpoint_record.specs.CTurnpoint.{readTurnpoint, turnpointBody, turnpointText}
+use Rattle.extension.specs.Extension.{read_definition, read_extension, extension_text}
+use Rattle.table.specs.Table.{table_of, read_defs, read_body, is_table_of, read_table, defs_of, defs_text, table_body, table_text}
+use Rattle.table.specs.Table.{table_read}
+use Rattle.a_record.specs.ARecord.{a_new, a_of, letter_form, read_a, triple_text, a_body, a_text}
+use Rattle.b_record.specs.BRecord.{valid_letter, valid_of, read_heights_of, read_fix, read_b, tail_text, b_body, b_text}
+use Rattle.c_record.specs.CRecord.{turns, read_flight_of, read_task_of, read_declaration, flight_text, task_text, declaration_body}
+use Rattle.c_record.specs.CRecord.{declaration_text}
+use Rattle.c_turnpoint_record.specs.CTurnpoint.{read_turnpoint, turnpoint_body, turnpoint_text}
 use Rattle.satellites.specs.Bits.{bit, word}
-use Rattle.satellites.specs.Satellites.{occurs, inPairs, numbers, readNumbers, words_of, setOf, readSatellites}
-use Rattle.e_record.specs.ERecord.{readE, eBody, eText}
-use Rattle.f_record.specs.FRecord.{readHeard, readF, fBody, fText}
-use Rattle.k_record.specs.KRecord.{readTimed, readK, kBody, kText}
-use Rattle.records.specs.Record.{kind_of, readC, readKind, readLine, recordTable}
-use Rattle.record_print.specs.Printed.{recordText, answerPrinted, reprinted}
-use Rattle.text.specs.Spelt.{speltFrom, spelt}
+use Rattle.satellites.specs.Satellites.{occurs, in_pairs, numbers, read_numbers, words_of, set_of, read_satellites}
+use Rattle.e_record.specs.ERecord.{read_e, e_body, e_text}
+use Rattle.f_record.specs.FRecord.{read_heard, read_f, f_body, f_text}
+use Rattle.k_record.specs.KRecord.{read_timed, read_k, k_body, k_text}
+use Rattle.records.specs.Record.{kind_of, read_c, read_kind, read_line_of, record_table}
+use Rattle.record_print.specs.Printed.{record_text, answer_printed, reprinted}
+use Rattle.text.specs.Spelt.{spelt_from, spelt}
 use Rattle.promises.specs.Back.{Needed}
 
 pub needed : Needed
 unfolding
-    bind moved guard pick placed movedBy ◌≤?◌ ◌=?◌ ◌∧?◌ ◌∨?◌ bytes_of findPart findMaybe text_of partText maybeText
-    restFrom nameFrom
-    isDigit allDigits firstOther valueFrom readDigits readNat readInt digits placesIn places_of padded signed zeros
-    isAscii cut
-    columns sized asciiIn ascii field mnemonicText readThree threeText timeOf readTime timeText dateOf readDate
-    dateText raw.compassLetter raw.sign_of raw.coordOf raw.lettered raw.readCoord raw.coordText
+    bind moved guard pick placed moved_by ◌≤?◌ ◌=?◌ ◌∧?◌ ◌∨?◌ bytes_of find_part find_maybe text_of part_text maybe_text
+    rest_from name_from
+    is_digit_of all_digits_of first_other_of value_from read_digits_of read_nat_of read_int_of digits places_in places_of padded signed zeros
+    is_ascii_of cut
+    columns sized ascii_in ascii field mnemonic_text read_three_of three_text time_of read_time_of time_text date_of read_date
+    date_text raw.compassLetter raw.sign_of raw.coordOf raw.lettered raw.readCoord raw.coordText
     coord.latitude coord.longitude coord.latitudeIn coord.longitudeIn position.readBoth position.readPosition
     position.positionText maker.letterOf maker.tripleSpelt maker.triple_of maker.known maker.first_of maker.isLetter
-    maker.letterMaker readDefinition readExtension extensionText table_of readDefs read_body isTable readTable defsOf
-    defsText tableBody tableText tableRead aNew aOf letterForm read_a tripleText aBody aText validLetter valid_of
-    readHeights readFix readB tailText bBody bText turns readFlight readTask readDeclaration flightText taskText
-    declarationBody declarationText readTurnpoint turnpointBody turnpointText
-    occurs inPairs numbers readNumbers words_of setOf readSatellites readE eBody eText readHeard readF fBody fText
-    readTimed readK kBody kText kind_of readC readKind readLine recordText recordTable answerPrinted reprinted
-    speltFrom spelt
+    maker.letterMaker read_definition read_extension extension_text table_of read_defs read_body is_table_of read_table defs_of
+    defs_text table_body table_text table_read a_new a_of letter_form read_a triple_text a_body a_text valid_letter valid_of
+    read_heights_of read_fix read_b tail_text b_body b_text turns read_flight_of read_task_of read_declaration flight_text task_text
+    declaration_body declaration_text read_turnpoint turnpoint_body turnpoint_text
+    occurs in_pairs numbers read_numbers words_of set_of read_satellites read_e e_body e_text read_heard read_f f_body f_text
+    read_timed read_k k_body k_text kind_of read_c read_kind read_line_of record_text record_table answer_printed reprinted
+    spelt_from spelt
 needed = record {
-  letter-form = refl;
+  letter_form_lem = refl;
   time = refl;
   latitude = refl;
   longitude = refl;
-  pressure-height = refl;
-  gps-height = refl;
+  pressure_height = refl;
+  gps_height = refl;
   turnpoint = refl;
   date = refl;
-  declaration-time = refl;
-  flight-date = refl;
+  declaration_time = refl;
+  flight_date = refl;
   task = refl;
   count = refl;
   definitions = refl;
   start = refl;
   end = refl;
-  data-time = refl;
-  event-time = refl;
-  satellites-time = refl;
-  pressure-zero = refl;
-  gps-zero = refl;
-  count-zero = refl;
+  data_time = refl;
+  event_time = refl;
+  satellites_time = refl;
+  pressure_zero = refl;
+  gps_zero = refl;
+  count_zero = refl;
 }

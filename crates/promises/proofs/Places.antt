@@ -1,7 +1,7 @@
 -- Where a refusal with 3 points.
 use Rattle.text.specs.Prelude.{ℕ, zero, suc, ◌+◌, ◌-◌, ◌*◌, ◌≤◌, ◌<◌, min, ◌≡◌, Bool, true, false, List, length, drop}
-use Rattle.text.specs.Prelude.{Res, ok, no, bind, moved, guard, pick, place_of, placed, movedBy, ◌≤?◌, ◌=?◌, byte, cut}
-use Rattle.text.specs.Prelude.{columns, largest, readNat, readInt, readDigits}
+use Rattle.text.specs.Prelude.{Res, ok, no, bind, moved, guard, pick, place_of, placed, moved_by, ◌≤?◌, ◌=?◌, byte, cut}
+use Rattle.text.specs.Prelude.{columns, largest, read_nat_of, read_int_of, read_digits_of}
 use Rattle.text.proofs.Prelude.{arith, refl, sym, ap, ◌∙◌, length-drop, length-take, is=, is≤}
 use Rattle.text.specs.declared.{refusal.Refusal.Refusal, refusal.MaybePlace.MaybePlace}
 use Rattle.text.specs.declared.refusal.Refusal.TheVariants.{UnreadableNumber, Syntax, NotAscii, OutOfRange}
@@ -9,31 +9,31 @@ use Rattle.text.specs.declared.refusal.Refusal.TheVariants.{WrongLength}
 use Rattle.text.specs.declared.refusal.Refusal.TheVariants.{BadExtension, MissingExtension, OutsideLine, NoRoom}
 use Rattle.text.specs.declared.refusal.Refusal.TheVariants.{NoTable, SpoiledTable, NotDefined}
 use Rattle.text.specs.declared.refusal.MaybePlace.TheVariants.{At, Missing}
-use Rattle.field.specs.Field.{sized, asciiIn, ascii, field}
-use Rattle.field.proofs.Digits.{other-inside}
-use Rattle.three.specs.Three.{readThree}
-use Rattle.time.specs.Time.{timeOf, readTime}
-use Rattle.date.specs.Date.{dateOf, readDate}
-use Rattle.raw_coord.specs.Coord.{readCoord, lettered, sign_of, coordOf}
-use Rattle.coord.specs.Coord.{latitude, longitude, latitudeIn, longitudeIn, readLatitude, readLongitude}
+use Rattle.field.specs.Field.{sized, ascii_in, ascii, field}
+use Rattle.field.proofs.Digits.{other_inside}
+use Rattle.three.specs.Three.{read_three_of}
+use Rattle.time.specs.Time.{time_of, read_time_of}
+use Rattle.date.specs.Date.{date_of, read_date}
+use Rattle.raw_coord.specs.Coord.{read_coord, lettered, sign_of, coord_of}
+use Rattle.coord.specs.Coord.{latitude, longitude, latitude_in, longitude_in, read_latitude, read_longitude}
 use Rattle.raw_coord.specs.declared.Compass.{Compass}
 use Rattle.raw_coord.specs.declared.Compass.TheVariants.{North, South, East, West}
-use Rattle.position.specs.Position.{readBoth, readPosition}
-use Rattle.satellites.specs.Satellites.{readNumbers, readSatellites}
-use Rattle.extension.specs.Extension.{readDefinition, readExtension}
-use Rattle.table.specs.Table.{readDefs, read_body, readTable}
-use Rattle.a_record.specs.ARecord.{readTriple, read_a}
-use Rattle.b_record.specs.BRecord.{valid_of, readHeights, readFix, readB}
-use Rattle.c_record.specs.CRecord.{readFlight, readTask, readDeclaration}
-use Rattle.c_turnpoint_record.specs.CTurnpoint.{readTurnpoint}
-use Rattle.d_record.specs.DRecord.{qualifierOf, readStation, readD}
-use Rattle.e_record.specs.ERecord.{readE}
-use Rattle.f_record.specs.FRecord.{readHeard, readF}
-use Rattle.g_record.specs.GRecord.{readG}
-use Rattle.h_record.specs.HRecord.{readH}
-use Rattle.k_record.specs.KRecord.{readTimed, readK}
-use Rattle.l_record.specs.LRecord.{readL}
-use Rattle.records.specs.Record.{Kind, kind_of, readC, readKind, readLine}
+use Rattle.position.specs.Position.{read_both, read_position}
+use Rattle.satellites.specs.Satellites.{read_numbers, read_satellites}
+use Rattle.extension.specs.Extension.{read_definition, read_extension}
+use Rattle.table.specs.Table.{read_defs, read_body, read_table}
+use Rattle.a_record.specs.ARecord.{read_triple, read_a}
+use Rattle.b_record.specs.BRecord.{valid_of, read_heights_of, read_fix, read_b}
+use Rattle.c_record.specs.CRecord.{read_flight_of, read_task_of, read_declaration}
+use Rattle.c_turnpoint_record.specs.CTurnpoint.{read_turnpoint}
+use Rattle.d_record.specs.DRecord.{qualifier_of, read_station, read_d}
+use Rattle.e_record.specs.ERecord.{read_e}
+use Rattle.f_record.specs.FRecord.{read_heard, read_f}
+use Rattle.g_record.specs.GRecord.{read_g}
+use Rattle.h_record.specs.HRecord.{read_h}
+use Rattle.k_record.specs.KRecord.{read_timed, read_k}
+use Rattle.l_record.specs.LRecord.{read_l}
+use Rattle.records.specs.Record.{Kind, kind_of, read_c, read_kind, read_line_of}
 use Rattle.promises.specs.Place.{PointsIn, Points, Placed}
 
 -- ---- one law for each way in which answers are put in a row
@@ -58,389 +58,389 @@ unplaced {place} h e =
     let z : ◌≡◌ {A = ℕ} 0 1 = cc in let x : ⊥ = omega arith in absurd x
 
 module _ {A : Type 0} {a b : ℕ} where
-  pub aims-ok : {v : A} → Aims a b (ok v)
-  aims-ok = record { at = λ place e. let z : ◌≡◌ {A = ℕ} 0 1 = cc in let x : ⊥ = omega arith in absurd x }
+  pub aims_ok : {v : A} → Aims a b (ok v)
+  aims_ok = record { at = λ place e. let z : ◌≡◌ {A = ℕ} 0 1 = cc in let x : ⊥ = omega arith in absurd x }
 
-  pub aims-no : {n : Refusal} → place_of n ≡ Missing → Aims {A = A} a b (no n)
-  aims-no {n} h = record { at = λ place e. let same : n ≡ UnreadableNumber place = cc in unplaced h same }
+  pub aims_no : {n : Refusal} → place_of n ≡ Missing → Aims {A = A} a b (no n)
+  aims_no {n} h = record { at = λ place e. let same : n ≡ UnreadableNumber place = cc in unplaced h same }
 
   aims_same : {B : Type 0} {n : Refusal} → Aims {A = B} a b (no n) → Aims {A = A} a b (no n)
   aims_same {B} {n} m =
       record { at = λ place e. let same : n ≡ UnreadableNumber place = cc in m.at place (ap no same) }
 
-  pub aims-bind : {B : Type 0} {m : Res B} {f : B → Res A} → Aims a b m → ((v : B) → Aims a b (f v)) →
+  pub aims_bind : {B : Type 0} {m : Res B} {f : B → Res A} → Aims a b m → ((v : B) → Aims a b (f v)) →
       Aims a b (bind m f)
   unfolding bind
-  aims-bind {m = ok v} p q = q v
-  aims-bind {m = no n} p q = aims_same p
+  aims_bind {m = ok v} p q = q v
+  aims_bind {m = no n} p q = aims_same p
 
-  pub aims-place : {place : ℕ} → a ≤ place → place < b → Aims {A = A} a b (no (UnreadableNumber place))
-  aims-place {place} l h = record { at = λ q e. let same : place ≡ q = cc in (omega arith, omega arith) }
+  pub aims_place : {place : ℕ} → a ≤ place → place < b → Aims {A = A} a b (no (UnreadableNumber place))
+  aims_place {place} l h = record { at = λ q e. let same : place ≡ q = cc in (omega arith, omega arith) }
 
-  aims-or : (n : Refusal) {t : Bool} {r : Res A} → (t ≡ false → Aims {A = A} a b (no n)) → (t ≡ true → Aims a b r) →
+  aims_or : (n : Refusal) {t : Bool} {r : Res A} → (t ≡ false → Aims {A = A} a b (no n)) → (t ≡ true → Aims a b r) →
       Aims a b (guard t n r)
   unfolding guard
-  aims-or n {t = true} p q = q refl
-  aims-or n {t = false} p q = p refl
+  aims_or n {t = true} p q = q refl
+  aims_or n {t = false} p q = p refl
 
-  pub aims-guard : (n : Refusal) → place_of n ≡ Missing → {t : Bool} {r : Res A} → (t ≡ true → Aims a b r) →
+  pub aims_guard : (n : Refusal) → place_of n ≡ Missing → {t : Bool} {r : Res A} → (t ≡ true → Aims a b r) →
       Aims a b (guard t n r)
-  aims-guard n h p = aims-or n (λ _. aims-no h) p
+  aims_guard n h p = aims_or n (λ _. aims_no h) p
 
-  pub aims-pick : {t : Bool} {r q : Res A} → (t ≡ true → Aims a b r) → (t ≡ false → Aims a b q) → Aims a b (pick t r q)
+  pub aims_pick : {t : Bool} {r q : Res A} → (t ≡ true → Aims a b r) → (t ≡ false → Aims a b q) → Aims a b (pick t r q)
   unfolding pick
-  aims-pick {t = true} p q = p refl
-  aims-pick {t = false} p q = q refl
+  aims_pick {t = true} p q = p refl
+  aims_pick {t = false} p q = q refl
 
-  pub aims-wider : {c d : ℕ} {m : Res A} → Aims c d m → a ≤ c → d ≤ b → Aims a b m
-  aims-wider p l h = record { at = λ place e. let i = p.at place e in (omega arith, omega arith) }
+  pub aims_wider : {c d : ℕ} {m : Res A} → Aims c d m → a ≤ c → d ≤ b → Aims a b m
+  aims_wider p l h = record { at = λ place e. let i = p.at place e in (omega arith, omega arith) }
 
 -- ---- numbers
 
-digits-aim : (sign most : ℕ) (s : List ℕ) → 1 ≤ sign + length s → Aims 0 (sign + length s) (readDigits sign most s)
-unfolding readDigits
-digits-aim sign most s some =
-    aims-or _ (λ _. aims-place (omega arith) (omega arith)) (λ _.
-    aims-or _ (λ h. let i = other-inside s h in aims-place (omega arith) (omega arith)) (λ _.
-    aims-or _ (λ _. aims-place (omega arith) (omega arith)) (λ _. aims-ok)))
+digits_aim : (sign most : ℕ) (s : List ℕ) → 1 ≤ sign + length s → Aims 0 (sign + length s) (read_digits_of sign most s)
+unfolding read_digits_of
+digits_aim sign most s some =
+    aims_or _ (λ _. aims_place (omega arith) (omega arith)) (λ _.
+    aims_or _ (λ h. let i = other_inside s h in aims_place (omega arith) (omega arith)) (λ _.
+    aims_or _ (λ _. aims_place (omega arith) (omega arith)) (λ _. aims_ok)))
 
-nat-aim : (most : ℕ) (s : List ℕ) → 1 ≤ length s → Aims 0 (length s) (readNat most s)
-unfolding readNat
-nat-aim most s some =
-    aims-pick
-    (λ _. aims-wider (digits-aim 1 most (drop 1 s) (omega arith)) (omega arith) (omega (arith, length-drop 1 s)))
-    (λ _. aims-wider (digits-aim 0 most s (omega arith)) (omega arith) (omega arith))
+nat_aim : (most : ℕ) (s : List ℕ) → 1 ≤ length s → Aims 0 (length s) (read_nat_of most s)
+unfolding read_nat_of
+nat_aim most s some =
+    aims_pick
+    (λ _. aims_wider (digits_aim 1 most (drop 1 s) (omega arith)) (omega arith) (omega (arith, length-drop 1 s)))
+    (λ _. aims_wider (digits_aim 0 most s (omega arith)) (omega arith) (omega arith))
 
-int-aim : (most : ℕ) (s : List ℕ) → 1 ≤ length s → Aims 0 (length s) (readInt most s)
-unfolding readInt
-int-aim most s some =
-    aims-pick
-    (λ _. aims-bind
-    (aims-wider (digits-aim 1 (most + 1) (drop 1 s) (omega arith)) (omega arith) (omega (arith, length-drop 1 s)))
-    (λ _. aims-ok))
-    (λ _. aims-bind (nat-aim most s some) (λ _. aims-ok))
+int_aim : (most : ℕ) (s : List ℕ) → 1 ≤ length s → Aims 0 (length s) (read_int_of most s)
+unfolding read_int_of
+int_aim most s some =
+    aims_pick
+    (λ _. aims_bind
+    (aims_wider (digits_aim 1 (most + 1) (drop 1 s) (omega arith)) (omega arith) (omega (arith, length-drop 1 s)))
+    (λ _. aims_ok))
+    (λ _. aims_bind (nat_aim most s some) (λ _. aims_ok))
 
-pub nat-aims : (most : ℕ) → Aimed (readNat most)
-nat-aims most s some fits = nat-aim most s some
+pub nat_aims : (most : ℕ) → Aimed (read_nat_of most)
+nat_aims most s some fits = nat_aim most s some
 
-pub int-aims : (most : ℕ) → Aimed (readInt most)
-int-aims most s some fits = int-aim most s some
+pub int_aims : (most : ℕ) → Aimed (read_int_of most)
+int_aims most s some fits = int_aim most s some
 
 -- ---- columns
 
-no-aim : {A : Type 0} (a lo hi : ℕ) (n : Refusal) → a + hi ≤ suc largest → Aims {A = A} lo hi (no n) →
-    Aims {A = A} (a + lo) (a + hi) (no (movedBy a n))
-unfolding movedBy placed
-no-aim a lo hi (UnreadableNumber q) h p = let i = p.at q refl in aims-place (omega arith) (omega arith)
-no-aim a lo hi Syntax h p = aims-no refl
-no-aim a lo hi NotAscii h p = aims-no refl
-no-aim a lo hi OutOfRange h p = aims-no refl
-no-aim a lo hi BadExtension h p = aims-no refl
-no-aim a lo hi MissingExtension h p = aims-no refl
-no-aim a lo hi WrongLength h p = aims-no refl
-no-aim a lo hi OutsideLine h p = aims-no refl
-no-aim a lo hi NoRoom h p = aims-no refl
-no-aim a lo hi NoTable h p = aims-no refl
-no-aim a lo hi SpoiledTable h p = aims-no refl
-no-aim a lo hi NotDefined h p = aims-no refl
+no_aim : {A : Type 0} (a lo hi : ℕ) (n : Refusal) → a + hi ≤ suc largest → Aims {A = A} lo hi (no n) →
+    Aims {A = A} (a + lo) (a + hi) (no (moved_by a n))
+unfolding moved_by placed
+no_aim a lo hi (UnreadableNumber q) h p = let i = p.at q refl in aims_place (omega arith) (omega arith)
+no_aim a lo hi Syntax h p = aims_no refl
+no_aim a lo hi NotAscii h p = aims_no refl
+no_aim a lo hi OutOfRange h p = aims_no refl
+no_aim a lo hi BadExtension h p = aims_no refl
+no_aim a lo hi MissingExtension h p = aims_no refl
+no_aim a lo hi WrongLength h p = aims_no refl
+no_aim a lo hi OutsideLine h p = aims_no refl
+no_aim a lo hi NoRoom h p = aims_no refl
+no_aim a lo hi NoTable h p = aims_no refl
+no_aim a lo hi SpoiledTable h p = aims_no refl
+no_aim a lo hi NotDefined h p = aims_no refl
 
-moved-aim : {A : Type 0} (a lo hi : ℕ) (m : Res A) → a + hi ≤ suc largest → Aims lo hi m →
+moved_aim : {A : Type 0} (a lo hi : ℕ) (m : Res A) → a + hi ≤ suc largest → Aims lo hi m →
     Aims (a + lo) (a + hi) (moved a m)
 unfolding moved
-moved-aim a lo hi (ok v) h p = aims-ok
-moved-aim a lo hi (no n) h p = no-aim a lo hi n h p
+moved_aim a lo hi (ok v) h p = aims_ok
+moved_aim a lo hi (no n) h p = no_aim a lo hi n h p
 
-cut-long : (a b : ℕ) (s : List ℕ) → a ≤ b → b ≤ length s → length (cut a b s) ≡ b - a
+cut_long : (a b : ℕ) (s : List ℕ) → a ≤ b → b ≤ length s → length (cut a b s) ≡ b - a
 unfolding cut
-cut-long a b s l h = simp (length-take, length-drop) (omega arith)
+cut_long a b s l h = simp (length-take, length-drop) (omega arith)
 
 -- a reader that points into its own text points, in columns of a longer one, on these columns
 module _ {A : Type 0} (read : List ℕ → Res A) (aims : Aimed read) (a b : ℕ) (s : List ℕ) where
-  pub columns-aim : a < b → b ≤ length s → length s ≤ largest → Aims a b (columns a b read s)
+  pub columns_aim : a < b → b ≤ length s → length s ≤ largest → Aims a b (columns a b read s)
   unfolding columns
-  columns-aim l h fits =
-      let e = cut-long a b s (omega arith) h in
+  columns_aim l h fits =
+      let e = cut_long a b s (omega arith) h in
       let p : Aims 0 (b - a) (read (cut a b s)) = rw e at (aims (cut a b s) (omega arith) (omega arith)) in
-      aims-wider (moved-aim a 0 (b - a) (read (cut a b s)) (omega arith) p) (omega arith) (omega arith)
+      aims_wider (moved_aim a 0 (b - a) (read (cut a b s)) (omega arith) p) (omega arith) (omega arith)
 
   -- in a line that holds them
-  pub columns-in : {c d : ℕ} → (a < b) × (b ≤ length s) × (length s ≤ largest) × (c ≤ a) × (b ≤ d) →
+  pub columns_in : {c d : ℕ} → (a < b) × (b ≤ length s) × (length s ≤ largest) × (c ≤ a) × (b ≤ d) →
       Aims c d (columns a b read s)
-  columns-in i = aims-wider (columns-aim i.0 i.1 i.2) i.3 i.4
+  columns_in i = aims_wider (columns_aim i.0 i.1 i.2) i.3 i.4
 
 -- all columns from a on
-behind-aim : {A : Type 0} (read : List ℕ → Res A) (a : ℕ) (s : List ℕ) → a ≤ length s → length s ≤ largest →
+behind_aim : {A : Type 0} (read : List ℕ → Res A) (a : ℕ) (s : List ℕ) → a ≤ length s → length s ≤ largest →
     (let t = cut a (length s) s in Aims 0 (length t) (read t)) → Aims 0 (length s) (columns a (length s) read s)
 unfolding columns
-behind-aim read a s l fits p =
-    let e = cut-long a (length s) s l (omega arith) in
-    aims-wider (moved-aim a 0 (length s - a) _ (omega arith) (rw e at p)) (omega arith) (omega arith)
+behind_aim read a s l fits p =
+    let e = cut_long a (length s) s l (omega arith) in
+    aims_wider (moved_aim a 0 (length s - a) _ (omega arith) (rw e at p)) (omega arith) (omega arith)
 
 -- ---- fields
 
-sized-aim : {A : Type 0} {a b : ℕ} (n : ℕ) (read : List ℕ → Res A) (s : List ℕ) → (length s ≡ n → Aims a b (read s)) →
+sized_aim : {A : Type 0} {a b : ℕ} (n : ℕ) (read : List ℕ → Res A) (s : List ℕ) → (length s ≡ n → Aims a b (read s)) →
     Aims a b (sized n read s)
 unfolding sized
-sized-aim n read s p = aims-guard _ refl (λ e. p (is= e))
+sized_aim n read s p = aims_guard _ refl (λ e. p (is= e))
 
-ascii-aim : {A : Type 0} {a b : ℕ} (t : List ℕ) {r : Res A} → Aims a b r → Aims a b (asciiIn t r)
-unfolding asciiIn
-ascii-aim t p = aims-guard _ refl (λ _. p)
+ascii_aim : {A : Type 0} {a b : ℕ} (t : List ℕ) {r : Res A} → Aims a b r → Aims a b (ascii_in t r)
+unfolding ascii_in
+ascii_aim t p = aims_guard _ refl (λ _. p)
 
-field-aim : {A : Type 0} {a b : ℕ} (n : ℕ) (read : List ℕ → Res A) (s : List ℕ) → (length s ≡ n → Aims a b (read s)) →
+field_aim : {A : Type 0} {a b : ℕ} (n : ℕ) (read : List ℕ → Res A) (s : List ℕ) → (length s ≡ n → Aims a b (read s)) →
     Aims a b (field n read s)
 unfolding field ascii
-field-aim n read s p = sized-aim n (ascii read) s (λ e. ascii-aim s (p e))
+field_aim n read s p = sized_aim n (ascii read) s (λ e. ascii_aim s (p e))
 
 -- three numbers, and what is made of them
-three-aim : {A : Type 0} (make : ℕ → ℕ → ℕ → Res A) → ((a b c : ℕ) → Aims 0 6 (make a b c)) → (s : List ℕ) →
-    length s ≡ 6 → Aims 0 6 (readThree make s)
-unfolding readThree
-three-aim make makes s l =
-    aims-bind (columns-in _ (nat-aims 255) 0 2 s (omega arith))
-    (λ a. aims-bind
-    (columns-in _ (nat-aims 255) 2 4 s (omega arith))
-    (λ b. aims-bind
-    (columns-in _ (nat-aims 255) 4 6 s (omega arith))
+three_aim : {A : Type 0} (make : ℕ → ℕ → ℕ → Res A) → ((a b c : ℕ) → Aims 0 6 (make a b c)) → (s : List ℕ) →
+    length s ≡ 6 → Aims 0 6 (read_three_of make s)
+unfolding read_three_of
+three_aim make makes s l =
+    aims_bind (columns_in _ (nat_aims 255) 0 2 s (omega arith))
+    (λ a. aims_bind
+    (columns_in _ (nat_aims 255) 2 4 s (omega arith))
+    (λ b. aims_bind
+    (columns_in _ (nat_aims 255) 4 6 s (omega arith))
     (λ c. makes a b c)))
 
 of_three : {A : Type 0} (make : ℕ → ℕ → ℕ → Res A) → ((a b c : ℕ) → Aims 0 6 (make a b c)) →
-    Aimed (field 6 (readThree make))
+    Aimed (field 6 (read_three_of make))
 of_three make makes s some fits =
-    field-aim 6 (readThree make) s (λ l. aims-wider (three-aim make makes s l) (omega arith) (omega arith))
+    field_aim 6 (read_three_of make) s (λ l. aims_wider (three_aim make makes s l) (omega arith) (omega arith))
 
-pub time-aims : Aimed readTime
-unfolding readTime timeOf
-time-aims = of_three timeOf (λ a b c. aims-guard _ refl (λ _. aims-ok))
+pub time_aims : Aimed read_time_of
+unfolding read_time_of time_of
+time_aims = of_three time_of (λ a b c. aims_guard _ refl (λ _. aims_ok))
 
-pub date-aims : Aimed readDate
-unfolding readDate dateOf
-date-aims = of_three dateOf (λ a b c. aims-guard _ refl (λ _. aims-ok))
+pub date_aims : Aimed read_date
+unfolding read_date date_of
+date_aims = of_three date_of (λ a b c. aims_guard _ refl (λ _. aims_ok))
 
 -- a coordinate with d characters of degrees
-coord-aim : (d limit : ℕ) (x y : Compass) (s : List ℕ) → 1 ≤ d → d ≤ 3 → length s ≡ d + 6 →
-    Aims 0 (d + 6) (readCoord d limit x y s)
-unfolding readCoord lettered sign_of coordOf
-coord-aim d limit x y s some few l =
-    aims-bind (columns-in _ (nat-aims 255) 0 d s (omega arith))
-    (λ g. aims-bind
-    (columns-in _ (nat-aims 65535) d (d + 5) s (omega arith))
-    (λ t. aims-bind (aims-pick (λ _. aims-ok) (λ _. aims-pick (λ _. aims-ok) (λ _. aims-no refl)))
-    (λ sign. aims-guard _ refl (λ _. aims-ok))))
+coord_aim : (d limit : ℕ) (x y : Compass) (s : List ℕ) → 1 ≤ d → d ≤ 3 → length s ≡ d + 6 →
+    Aims 0 (d + 6) (read_coord d limit x y s)
+unfolding read_coord lettered sign_of coord_of
+coord_aim d limit x y s some few l =
+    aims_bind (columns_in _ (nat_aims 255) 0 d s (omega arith))
+    (λ g. aims_bind
+    (columns_in _ (nat_aims 65535) d (d + 5) s (omega arith))
+    (λ t. aims_bind (aims_pick (λ _. aims_ok) (λ _. aims_pick (λ _. aims_ok) (λ _. aims_no refl)))
+    (λ sign. aims_guard _ refl (λ _. aims_ok))))
 
 -- in a text that is known to be ASCII, and as a field
 module _ (d limit : ℕ) (x y : Compass) (some : 1 ≤ d) (few : d ≤ 3) where
-  coord-in : Aimed (sized (d + 6) (readCoord d limit x y))
-  coord-in s _ fits =
-      sized-aim (d + 6) (readCoord d limit x y) s (λ l.
-      aims-wider (coord-aim d limit x y s some few l) (omega arith) (omega arith))
+  coord_in : Aimed (sized (d + 6) (read_coord d limit x y))
+  coord_in s _ fits =
+      sized_aim (d + 6) (read_coord d limit x y) s (λ l.
+      aims_wider (coord_aim d limit x y s some few l) (omega arith) (omega arith))
 
-  coord-of : Aimed (field (d + 6) (readCoord d limit x y))
-  coord-of s _ fits =
-      field-aim (d + 6) (readCoord d limit x y) s (λ l.
-      aims-wider (coord-aim d limit x y s some few l) (omega arith) (omega arith))
+  coord_of_lem : Aimed (field (d + 6) (read_coord d limit x y))
+  coord_of_lem s _ fits =
+      field_aim (d + 6) (read_coord d limit x y) s (λ l.
+      aims_wider (coord_aim d limit x y s some few l) (omega arith) (omega arith))
 
-latitude-in : Aimed latitudeIn
-unfolding latitudeIn latitude
-latitude-in s some fits =
-    aims-bind (coord-in 2 90 North South (omega arith) (omega arith) s some fits) (λ _. aims-ok)
+latitude_in_lem : Aimed latitude_in
+unfolding latitude_in latitude
+latitude_in_lem s some fits =
+    aims_bind (coord_in 2 90 North South (omega arith) (omega arith) s some fits) (λ _. aims_ok)
 
-longitude-in : Aimed longitudeIn
-unfolding longitudeIn longitude
-longitude-in s some fits =
-    aims-bind (coord-in 3 180 East West (omega arith) (omega arith) s some fits) (λ _. aims-ok)
+longitude_in_lem : Aimed longitude_in
+unfolding longitude_in longitude
+longitude_in_lem s some fits =
+    aims_bind (coord_in 3 180 East West (omega arith) (omega arith) s some fits) (λ _. aims_ok)
 
-pub latitude-aims : Aimed readLatitude
-unfolding readLatitude latitude
-latitude-aims s some fits =
-    aims-bind (coord-of 2 90 North South (omega arith) (omega arith) s some fits) (λ _. aims-ok)
+pub latitude_aims : Aimed read_latitude
+unfolding read_latitude latitude
+latitude_aims s some fits =
+    aims_bind (coord_of_lem 2 90 North South (omega arith) (omega arith) s some fits) (λ _. aims_ok)
 
-pub longitude-aims : Aimed readLongitude
-unfolding readLongitude longitude
-longitude-aims s some fits =
-    aims-bind (coord-of 3 180 East West (omega arith) (omega arith) s some fits) (λ _. aims-ok)
+pub longitude_aims : Aimed read_longitude
+unfolding read_longitude longitude
+longitude_aims s some fits =
+    aims_bind (coord_of_lem 3 180 East West (omega arith) (omega arith) s some fits) (λ _. aims_ok)
 
-pub position-aims : Aimed readPosition
-unfolding readPosition readBoth
-position-aims s some fits =
-    field-aim 17 readBoth s (λ l.
-    aims-bind (columns-in _ latitude-in 0 8 s (omega arith)) (λ _.
-    aims-bind (columns-in _ longitude-in 8 17 s (omega arith))
-    (λ _. aims-ok)))
+pub position_aims : Aimed read_position
+unfolding read_position read_both
+position_aims s some fits =
+    field_aim 17 read_both s (λ l.
+    aims_bind (columns_in _ latitude_in_lem 0 8 s (omega arith)) (λ _.
+    aims_bind (columns_in _ longitude_in_lem 8 17 s (omega arith))
+    (λ _. aims_ok)))
 
 -- a list of satellites, an empty one too
-satellites-aim : (s : List ℕ) → Aims 0 (length s) (readSatellites s)
-unfolding readSatellites readNumbers
-satellites-aim s =
-    aims-bind
-    (aims-guard _ refl (λ _. aims-or _ (λ other. aims-place (omega arith) (other-inside s other)) (λ _. aims-ok)))
-    (λ _. aims-ok)
+satellites_aim : (s : List ℕ) → Aims 0 (length s) (read_satellites s)
+unfolding read_satellites read_numbers
+satellites_aim s =
+    aims_bind
+    (aims_guard _ refl (λ _. aims_or _ (λ other. aims_place (omega arith) (other_inside s other)) (λ _. aims_ok)))
+    (λ _. aims_ok)
 
-pub definition-aims : Aimed readExtension
-unfolding readExtension readDefinition
-definition-aims s some fits =
-    aims-guard _ refl (λ e. let l : length s ≡ 7 = is= e in
-    aims-bind (columns-in _ (nat-aims 255) 0 2 s (omega arith))
-    (λ _. aims-bind
-    (columns-in _ (nat-aims 255) 2 4 s (omega arith))
-    (λ _. aims-guard _ refl (λ _. aims-ok))))
+pub definition_aims : Aimed read_extension
+unfolding read_extension read_definition
+definition_aims s some fits =
+    aims_guard _ refl (λ e. let l : length s ≡ 7 = is= e in
+    aims_bind (columns_in _ (nat_aims 255) 0 2 s (omega arith))
+    (λ _. aims_bind
+    (columns_in _ (nat_aims 255) 2 4 s (omega arith))
+    (λ _. aims_guard _ refl (λ _. aims_ok))))
 
 -- ---- lines
 
 -- A, D, G, H and L lines have no number, so no refusal of them points
-a-aims : Aimed read_a
-unfolding read_a readTriple
-a-aims s some fits =
-    aims-guard _ refl (λ _. aims-guard _ refl (λ _.
-    aims-pick (λ _. aims-guard _ refl (λ _. aims-ok))
-    (λ _. aims-pick (λ _. ascii-aim (cut 0 4 s) aims-ok) (λ _. ascii-aim (cut 0 7 s) aims-ok))))
+a_aims : Aimed read_a
+unfolding read_a read_triple
+a_aims s some fits =
+    aims_guard _ refl (λ _. aims_guard _ refl (λ _.
+    aims_pick (λ _. aims_guard _ refl (λ _. aims_ok))
+    (λ _. aims_pick (λ _. ascii_aim (cut 0 4 s) aims_ok) (λ _. ascii_aim (cut 0 7 s) aims_ok))))
 
-h-aims : Aimed readH
-unfolding readH
-h-aims s some fits = aims-guard _ refl (λ _. aims-guard _ refl (λ _. ascii-aim (cut 0 5 s) aims-ok))
+h_aims : Aimed read_h
+unfolding read_h
+h_aims s some fits = aims_guard _ refl (λ _. aims_guard _ refl (λ _. ascii_aim (cut 0 5 s) aims_ok))
 
-d-aims : Aimed readD
-unfolding readD ascii readStation qualifierOf
-d-aims s some fits =
-    aims-guard _ refl (λ _. aims-guard _ refl (λ _.
-    ascii-aim s
-    (aims-bind (aims-pick (λ _. aims-ok) (λ _. aims-pick (λ _. aims-ok) (λ _. aims-no refl))) (λ _. aims-ok))))
+d_aims : Aimed read_d
+unfolding read_d ascii read_station qualifier_of
+d_aims s some fits =
+    aims_guard _ refl (λ _. aims_guard _ refl (λ _.
+    ascii_aim s
+    (aims_bind (aims_pick (λ _. aims_ok) (λ _. aims_pick (λ _. aims_ok) (λ _. aims_no refl))) (λ _. aims_ok))))
 
-g-aims : Aimed readG
-unfolding readG
-g-aims s some fits = aims-guard _ refl (λ _. aims-ok)
+g_aims : Aimed read_g
+unfolding read_g
+g_aims s some fits = aims_guard _ refl (λ _. aims_ok)
 
-l-aims : Aimed readL
-unfolding readL
-l-aims s some fits = aims-guard _ refl (λ _. aims-guard _ refl (λ _. ascii-aim (cut 0 4 s) aims-ok))
+l_aims : Aimed read_l
+unfolding read_l
+l_aims s some fits = aims_guard _ refl (λ _. aims_guard _ refl (λ _. ascii_aim (cut 0 4 s) aims_ok))
 
-e-aims : Aimed readE
-unfolding readE
-e-aims s some fits =
-    aims-guard _ refl (λ e. let l : 10 ≤ length s = is≤ e in
-    aims-guard _ refl (λ _.
-    ascii-aim (cut 0 10 s) (aims-bind (columns-in _ time-aims 1 7 s (omega arith)) (λ _. aims-ok))))
+e_aims : Aimed read_e
+unfolding read_e
+e_aims s some fits =
+    aims_guard _ refl (λ e. let l : 10 ≤ length s = is≤ e in
+    aims_guard _ refl (λ _.
+    ascii_aim (cut 0 10 s) (aims_bind (columns_in _ time_aims 1 7 s (omega arith)) (λ _. aims_ok))))
 
-f-aims : Aimed readF
-unfolding readF ascii readHeard
-f-aims s some fits =
-    aims-guard _ refl (λ e. let l : 7 ≤ length s = is≤ e in
-    aims-guard _ refl (λ _.
-    ascii-aim s
-    (aims-bind (columns-in _ time-aims 1 7 s (omega arith)) (λ _.
-    aims-bind (behind-aim readSatellites 7 s l fits (satellites-aim (cut 7 (length s) s))) (λ _. aims-ok)))))
+f_aims : Aimed read_f
+unfolding read_f ascii read_heard
+f_aims s some fits =
+    aims_guard _ refl (λ e. let l : 7 ≤ length s = is≤ e in
+    aims_guard _ refl (λ _.
+    ascii_aim s
+    (aims_bind (columns_in _ time_aims 1 7 s (omega arith)) (λ _.
+    aims_bind (behind_aim read_satellites 7 s l fits (satellites_aim (cut 7 (length s) s))) (λ _. aims_ok)))))
 
-heights-aim : (s : List ℕ) → 35 ≤ length s → length s ≤ largest → Aims 0 (length s) (readHeights s)
-unfolding readHeights
-heights-aim s l fits =
-    aims-bind (columns-in _ (int-aims 32767) 25 30 s (omega arith)) (λ _.
-    aims-bind (columns-in _ (int-aims 32767) 30 35 s (omega arith)) (λ _. aims-ok))
+heights_aim : (s : List ℕ) → 35 ≤ length s → length s ≤ largest → Aims 0 (length s) (read_heights_of s)
+unfolding read_heights_of
+heights_aim s l fits =
+    aims_bind (columns_in _ (int_aims 32767) 25 30 s (omega arith)) (λ _.
+    aims_bind (columns_in _ (int_aims 32767) 30 35 s (omega arith)) (λ _. aims_ok))
 
-b-aims : Aimed readB
-unfolding readB ascii readFix valid_of
-b-aims s some fits =
-    aims-guard _ refl (λ e. let l : 35 ≤ length s = is≤ e in
-    ascii-aim s
-    (aims-bind (columns-in _ time-aims 1 7 s (omega arith)) (λ _.
-    aims-bind (columns-in _ position-aims 7 24 s (omega arith)) (λ _.
-    aims-bind (aims-pick (λ _. aims-ok) (λ _. aims-pick (λ _. aims-ok) (λ _. aims-no refl))) (λ _.
-    aims-bind (heights-aim s l fits) (λ _. aims-ok))))))
+b_aims : Aimed read_b
+unfolding read_b ascii read_fix valid_of
+b_aims s some fits =
+    aims_guard _ refl (λ e. let l : 35 ≤ length s = is≤ e in
+    ascii_aim s
+    (aims_bind (columns_in _ time_aims 1 7 s (omega arith)) (λ _.
+    aims_bind (columns_in _ position_aims 7 24 s (omega arith)) (λ _.
+    aims_bind (aims_pick (λ _. aims_ok) (λ _. aims_pick (λ _. aims_ok) (λ _. aims_no refl))) (λ _.
+    aims_bind (heights_aim s l fits) (λ _. aims_ok))))))
 
-k-aims : Aimed readK
-unfolding readK ascii readTimed
-k-aims s some fits =
-    aims-guard _ refl (λ e. let l : 7 ≤ length s = is≤ e in
-    aims-guard _ refl (λ _.
-    ascii-aim s (aims-bind (columns-in _ time-aims 1 7 s (omega arith)) (λ _. aims-ok))))
+k_aims : Aimed read_k
+unfolding read_k ascii read_timed
+k_aims s some fits =
+    aims_guard _ refl (λ e. let l : 7 ≤ length s = is≤ e in
+    aims_guard _ refl (λ _.
+    ascii_aim s (aims_bind (columns_in _ time_aims 1 7 s (omega arith)) (λ _. aims_ok))))
 
-turnpoint-aims : Aimed readTurnpoint
-unfolding readTurnpoint
-turnpoint-aims s some fits =
-    aims-guard _ refl (λ e. let l : 18 ≤ length s = is≤ e in
-    aims-guard _ refl (λ _.
-    ascii-aim (cut 0 18 s)
-    (aims-bind (columns-in _ position-aims 1 18 s (omega arith)) (λ _. aims-ok))))
+turnpoint_aims : Aimed read_turnpoint
+unfolding read_turnpoint
+turnpoint_aims s some fits =
+    aims_guard _ refl (λ e. let l : 18 ≤ length s = is≤ e in
+    aims_guard _ refl (λ _.
+    ascii_aim (cut 0 18 s)
+    (aims_bind (columns_in _ position_aims 1 18 s (omega arith)) (λ _. aims_ok))))
 
-flight-aims : Aimed readFlight
-unfolding readFlight
-flight-aims s some fits = aims-pick (λ _. aims-ok) (λ _. aims-bind (date-aims s some fits) (λ _. aims-ok))
+flight_aims : Aimed read_flight_of
+unfolding read_flight_of
+flight_aims s some fits = aims_pick (λ _. aims_ok) (λ _. aims_bind (date_aims s some fits) (λ _. aims_ok))
 
-task-aim : (s : List ℕ) → 25 ≤ length s → length s ≤ largest → Aims 0 (length s) (readTask s)
-unfolding readTask
-task-aim s l fits =
-    aims-bind (columns-in _ (nat-aims 65535) 19 23 s (omega arith)) (λ _.
-    aims-bind (columns-in _ (int-aims 127) 23 25 s (omega arith)) (λ _. aims-ok))
+task_aim : (s : List ℕ) → 25 ≤ length s → length s ≤ largest → Aims 0 (length s) (read_task_of s)
+unfolding read_task_of
+task_aim s l fits =
+    aims_bind (columns_in _ (nat_aims 65535) 19 23 s (omega arith)) (λ _.
+    aims_bind (columns_in _ (int_aims 127) 23 25 s (omega arith)) (λ _. aims_ok))
 
-declaration-aims : Aimed readDeclaration
-unfolding readDeclaration
-declaration-aims s some fits =
-    aims-guard _ refl (λ e. let l : 25 ≤ length s = is≤ e in
-    aims-guard _ refl (λ _.
-    ascii-aim (cut 0 25 s)
-    (aims-bind (columns-in _ date-aims 1 7 s (omega arith)) (λ _.
-    aims-bind (columns-in _ time-aims 7 13 s (omega arith)) (λ _.
-    aims-bind (columns-in _ flight-aims 13 19 s (omega arith)) (λ _.
-    aims-bind (task-aim s l fits) (λ _. aims-ok)))))))
+declaration_aims : Aimed read_declaration
+unfolding read_declaration
+declaration_aims s some fits =
+    aims_guard _ refl (λ e. let l : 25 ≤ length s = is≤ e in
+    aims_guard _ refl (λ _.
+    ascii_aim (cut 0 25 s)
+    (aims_bind (columns_in _ date_aims 1 7 s (omega arith)) (λ _.
+    aims_bind (columns_in _ time_aims 7 13 s (omega arith)) (λ _.
+    aims_bind (columns_in _ flight_aims 13 19 s (omega arith)) (λ _.
+    aims_bind (task_aim s l fits) (λ _. aims_ok)))))))
 
 -- definitions in turn
-defs-aim : (k : ℕ) (s : List ℕ) → length s ≡ 7 * k → length s ≤ largest → Aims 0 (length s) (readDefs k s)
-unfolding readDefs
-defs-aim zero s l fits = aims-ok
-defs-aim (suc k) s l fits =
-    let e = cut-long 7 (length s) s (omega arith) (omega arith) in
-    let rest = defs-aim k (cut 7 (length s) s) (omega arith) (omega arith) in
-    aims-bind (columns-in _ definition-aims 0 7 s (omega arith)) (λ _.
-    aims-bind (behind-aim (readDefs k) 7 s (omega arith) fits rest) (λ _. aims-ok))
+defs_aim : (k : ℕ) (s : List ℕ) → length s ≡ 7 * k → length s ≤ largest → Aims 0 (length s) (read_defs k s)
+unfolding read_defs
+defs_aim zero s l fits = aims_ok
+defs_aim (suc k) s l fits =
+    let e = cut_long 7 (length s) s (omega arith) (omega arith) in
+    let rest = defs_aim k (cut 7 (length s) s) (omega arith) (omega arith) in
+    aims_bind (columns_in _ definition_aims 0 7 s (omega arith)) (λ _.
+    aims_bind (behind_aim (read_defs k) 7 s (omega arith) fits rest) (λ _. aims_ok))
 
-table-aims : Aimed readTable
-unfolding readTable ascii read_body
-table-aims s some fits =
-    aims-guard _ refl (λ e. let l : 3 ≤ length s = is≤ e in
-    aims-guard _ refl (λ _.
-    ascii-aim s
-    (aims-bind (columns-in _ (nat-aims 255) 1 3 s (omega arith)) (λ count.
-    aims-guard _ refl (λ t.
+table_aims : Aimed read_table
+unfolding read_table ascii read_body
+table_aims s some fits =
+    aims_guard _ refl (λ e. let l : 3 ≤ length s = is≤ e in
+    aims_guard _ refl (λ _.
+    ascii_aim s
+    (aims_bind (columns_in _ (nat_aims 255) 1 3 s (omega arith)) (λ count.
+    aims_guard _ refl (λ t.
     let w : length s ≡ 3 + 7 * count = is= t in
-    let e = cut-long 3 (length s) s (omega arith) (omega arith) in
-    behind-aim (readDefs count) 3 s (omega arith) fits
-    (defs-aim count (cut 3 (length s) s) (omega arith) (omega arith)))))))
+    let e = cut_long 3 (length s) s (omega arith) (omega arith) in
+    behind_aim (read_defs count) 3 s (omega arith) fits
+    (defs_aim count (cut 3 (length s) s) (omega arith) (omega arith)))))))
 
-kind-aims : (k : Kind) → Aimed (readKind k)
-unfolding readKind readC
-kind-aims Kind.A s some fits = aims-bind (a-aims s some fits) (λ _. aims-ok)
-kind-aims Kind.B s some fits = aims-bind (b-aims s some fits) (λ _. aims-ok)
-kind-aims Kind.C s some fits =
-    aims-guard _ refl (λ _.
-    aims-pick (λ _. aims-bind (turnpoint-aims s some fits) (λ _. aims-ok))
-    (λ _. aims-bind (declaration-aims s some fits) (λ _. aims-ok)))
-kind-aims Kind.D s some fits = aims-bind (d-aims s some fits) (λ _. aims-ok)
-kind-aims Kind.E s some fits = aims-bind (e-aims s some fits) (λ _. aims-ok)
-kind-aims Kind.F s some fits = aims-bind (f-aims s some fits) (λ _. aims-ok)
-kind-aims Kind.G s some fits = aims-bind (g-aims s some fits) (λ _. aims-ok)
-kind-aims Kind.H s some fits = aims-bind (h-aims s some fits) (λ _. aims-ok)
-kind-aims Kind.I s some fits = aims-bind (table-aims s some fits) (λ _. aims-ok)
-kind-aims Kind.J s some fits = aims-bind (table-aims s some fits) (λ _. aims-ok)
-kind-aims Kind.K s some fits = aims-bind (k-aims s some fits) (λ _. aims-ok)
-kind-aims Kind.L s some fits = aims-bind (l-aims s some fits) (λ _. aims-ok)
-kind-aims Kind.Other s some fits = aims-ok
+kind_aims : (k : Kind) → Aimed (read_kind k)
+unfolding read_kind read_c
+kind_aims Kind.A s some fits = aims_bind (a_aims s some fits) (λ _. aims_ok)
+kind_aims Kind.B s some fits = aims_bind (b_aims s some fits) (λ _. aims_ok)
+kind_aims Kind.C s some fits =
+    aims_guard _ refl (λ _.
+    aims_pick (λ _. aims_bind (turnpoint_aims s some fits) (λ _. aims_ok))
+    (λ _. aims_bind (declaration_aims s some fits) (λ _. aims_ok)))
+kind_aims Kind.D s some fits = aims_bind (d_aims s some fits) (λ _. aims_ok)
+kind_aims Kind.E s some fits = aims_bind (e_aims s some fits) (λ _. aims_ok)
+kind_aims Kind.F s some fits = aims_bind (f_aims s some fits) (λ _. aims_ok)
+kind_aims Kind.G s some fits = aims_bind (g_aims s some fits) (λ _. aims_ok)
+kind_aims Kind.H s some fits = aims_bind (h_aims s some fits) (λ _. aims_ok)
+kind_aims Kind.I s some fits = aims_bind (table_aims s some fits) (λ _. aims_ok)
+kind_aims Kind.J s some fits = aims_bind (table_aims s some fits) (λ _. aims_ok)
+kind_aims Kind.K s some fits = aims_bind (k_aims s some fits) (λ _. aims_ok)
+kind_aims Kind.L s some fits = aims_bind (l_aims s some fits) (λ _. aims_ok)
+kind_aims Kind.Other s some fits = aims_ok
 
-pub line-aims : Aimed readLine
-unfolding readLine
-line-aims s some fits = aims-guard _ refl (λ _. kind-aims (kind_of (byte 0 s)) s some fits)
+pub line_aims : Aimed read_line_of
+unfolding read_line_of
+line_aims s some fits = aims_guard _ refl (λ _. kind_aims (kind_of (byte 0 s)) s some fits)
 
 -- ---- all of it
 
-pub points-on-its-columns : Placed
-points-on-its-columns = record {
-  on-columns = λ read p a b s l h fits. (columns-aim read (aimed read p) a b s l h fits).at;
-  nat = λ most. points _ (nat-aims most);
-  int = λ most. points _ (int-aims most);
-  time = points _ time-aims;
-  date = points _ date-aims;
-  latitude = points _ latitude-aims;
-  longitude = points _ longitude-aims;
-  position = points _ position-aims;
-  satellites = points _ (λ s _ _. satellites-aim s);
-  definition = points _ definition-aims;
-  line = points _ line-aims;
+pub points_on_its_columns : Placed
+points_on_its_columns = record {
+  on_columns = λ read p a b s l h fits. (columns_aim read (aimed read p) a b s l h fits).at;
+  nat = λ most. points _ (nat_aims most);
+  int = λ most. points _ (int_aims most);
+  time = points _ time_aims;
+  date = points _ date_aims;
+  latitude = points _ latitude_aims;
+  longitude = points _ longitude_aims;
+  position = points _ position_aims;
+  satellites = points _ (λ s _ _. satellites_aim s);
+  definition = points _ definition_aims;
+  line = points _ line_aims;
 }

@@ -1,61 +1,61 @@
 -- The starred readings hold, by computation.
-use Rattle.text.specs.Prelude.{bind, moved, guard, pick, placed, movedBy, ◌≤?◌, ◌=?◌, ◌∧?◌, ◌∨?◌, cut, columns, readNat}
-use Rattle.text.specs.Prelude.{readInt, readDigits}
-use Rattle.text.specs.Prelude.{isDigit, allDigits, firstOther, zeros, padded, signed, digits, places_of, valueFrom}
+use Rattle.text.specs.Prelude.{bind, moved, guard, pick, placed, moved_by, ◌≤?◌, ◌=?◌, ◌∧?◌, ◌∨?◌, cut, columns, read_nat_of}
+use Rattle.text.specs.Prelude.{read_int_of, read_digits_of}
+use Rattle.text.specs.Prelude.{is_digit_of, all_digits_of, first_other_of, zeros, padded, signed, digits, places_of, value_from}
 use Rattle.text.proofs.Prelude.{refl}
-use Rattle.part.specs.Part.{bytes_of, findPart, findMaybe, text_of, partText, maybeText, restFrom, nameFrom}
-use Rattle.text.specs.Number.{placesIn}
-use Rattle.field.specs.Field.{isAscii, sized, asciiIn, ascii, field, mnemonicText}
-use Rattle.three.specs.Three.{readThree, threeText}
-use Rattle.time.specs.Time.{timeOf, readTime, timeText, secondsOf}
-use Rattle.date.specs.Date.{dateOf, readDate, dateText}
-use Rattle.raw_coord.specs.Coord.{compassLetter, sign_of, coordOf, lettered, readCoord}
-use Rattle.coord.specs.Coord.{latitude, readLatitude}
+use Rattle.part.specs.Part.{bytes_of, find_part, find_maybe, text_of, part_text, maybe_text, rest_from, name_from}
+use Rattle.text.specs.Number.{places_in}
+use Rattle.field.specs.Field.{is_ascii_of, sized, ascii_in, ascii, field, mnemonic_text}
+use Rattle.three.specs.Three.{read_three_of, three_text}
+use Rattle.time.specs.Time.{time_of, read_time_of, time_text, seconds_of_lem}
+use Rattle.date.specs.Date.{date_of, read_date, date_text}
+use Rattle.raw_coord.specs.Coord.{compass_letter, sign_of, coord_of, lettered, read_coord}
+use Rattle.coord.specs.Coord.{latitude, read_latitude}
 use Rattle.manufacturer.specs.Maker as maker
-use Rattle.extension.specs.Extension.{readDefinition, readExtension}
-use Rattle.table.specs.Table.{readDefs, read_body, isTable, readTable}
-use Rattle.extension.specs.Value.{findValue}
-use Rattle.a_record.specs.ARecord.{aNew, aOf, letterForm, longForm, readTriple, read_a, tripleText, aBody, aText}
-use Rattle.c_record.specs.CRecord.{turns, readFlight, readTask, readDeclaration, flightText, taskText, declarationBody}
-use Rattle.c_record.specs.CRecord.{declarationText}
-use Rattle.h_record.specs.HRecord.{sourceByte, source_of, colonIn, named, readH}
-use Rattle.records.specs.Record.{kind_of, whole, readC, readKind, readLine, recordTable}
-use Rattle.record_print.specs.Printed.{recordText, answerPrinted, reprinted}
-use Rattle.text.specs.Spelt.{speltFrom, spelt}
+use Rattle.extension.specs.Extension.{read_definition, read_extension}
+use Rattle.table.specs.Table.{read_defs, read_body, is_table_of, read_table}
+use Rattle.extension.specs.Value.{find_value}
+use Rattle.a_record.specs.ARecord.{a_new, a_of, letter_form, long_form, read_triple, read_a, triple_text, a_body, a_text}
+use Rattle.c_record.specs.CRecord.{turns, read_flight_of, read_task_of, read_declaration, flight_text, task_text, declaration_body}
+use Rattle.c_record.specs.CRecord.{declaration_text}
+use Rattle.h_record.specs.HRecord.{source_byte, source_of, colon_in, named, read_h}
+use Rattle.records.specs.Record.{kind_of, whole, read_c, read_kind, read_line_of, record_table}
+use Rattle.record_print.specs.Printed.{record_text, answer_printed, reprinted}
+use Rattle.text.specs.Spelt.{spelt_from, spelt}
 use Rattle.promises.specs.Starred.{Starred}
 
 pub starred : Starred
 unfolding
-    bind moved guard pick placed movedBy ◌≤?◌ ◌=?◌ ◌∧?◌ ◌∨?◌ bytes_of findPart findMaybe text_of partText maybeText
-    restFrom nameFrom isDigit
-    allDigits firstOther valueFrom readDigits readNat readInt digits placesIn places_of padded signed zeros isAscii
+    bind moved guard pick placed moved_by ◌≤?◌ ◌=?◌ ◌∧?◌ ◌∨?◌ bytes_of find_part find_maybe text_of part_text maybe_text
+    rest_from name_from is_digit_of
+    all_digits_of first_other_of value_from read_digits_of read_nat_of read_int_of digits places_in places_of padded signed zeros is_ascii_of
     cut columns
-    sized asciiIn ascii field mnemonicText readThree threeText timeOf readTime timeText secondsOf dateOf readDate
-    dateText compassLetter sign_of coordOf lettered readCoord latitude readLatitude maker.letterOf maker.tripleSpelt
+    sized ascii_in ascii field mnemonic_text read_three_of three_text time_of read_time_of time_text seconds_of_lem date_of read_date
+    date_text compass_letter sign_of coord_of lettered read_coord latitude read_latitude maker.letterOf maker.tripleSpelt
     maker.triple_of maker.known maker.first_of maker.isLetter maker.isTriple maker.letterMaker maker.tripleMaker
-    readDefinition readExtension readDefs read_body isTable readTable findValue aNew aOf letterForm longForm
-    readTriple read_a tripleText aBody aText turns readFlight readTask readDeclaration flightText taskText
-    declarationBody declarationText sourceByte source_of colonIn named readH kind_of whole readC readKind
-    readLine recordText recordTable answerPrinted reprinted speltFrom spelt
+    read_definition read_extension read_defs read_body is_table_of read_table find_value a_new a_of letter_form long_form
+    read_triple read_a triple_text a_body a_text turns read_flight_of read_task_of read_declaration flight_text task_text
+    declaration_body declaration_text source_byte source_of colon_in named read_h kind_of whole read_c read_kind
+    read_line_of record_text record_table answer_printed reprinted spelt_from spelt
 starred = record {
-  line-empty = refl;
-  line-HFFTY = refl;
-  line-HFFTY-colon = refl;
-  line-AC00069 = refl;
-  line-AX12345 = refl;
-  line-A12345 = refl;
-  line-AX123456 = refl;
-  line-A123456 = refl;
-  time-246060 = refl;
-  seconds-246060 = refl;
-  time-250000 = refl;
-  latitude-9060000N = refl;
-  latitude-9060001N = refl;
-  latitude-9065536N = refl;
-  flight-of-pluses = refl;
-  pluses-printed = refl;
-  flight-of-zeros = refl;
-  height-minus-0000 = refl;
-  line-I013836FXA = refl;
-  value-36-38 = refl;
+  line_empty = refl;
+  line_hffty = refl;
+  line_hffty_colon = refl;
+  line_ac00069 = refl;
+  line_ax12345 = refl;
+  line_a12345 = refl;
+  line_ax123456 = refl;
+  line_a123456 = refl;
+  time_246060 = refl;
+  seconds_246060 = refl;
+  time_250000 = refl;
+  latitude_9060000_n = refl;
+  latitude_9060001_n = refl;
+  latitude_9065536_n = refl;
+  flight_of_pluses = refl;
+  pluses_printed = refl;
+  flight_of_zeros = refl;
+  height_minus_0000 = refl;
+  line_i013836_fxa = refl;
+  value_36_38 = refl;
 }

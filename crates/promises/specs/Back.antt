@@ -2,66 +2,66 @@
 -- do.
 use Rattle.text.specs.Prelude.{ℕ, ◌≤◌, ◌<◌, ◌≡◌, true, false, List, ◌++◌, length, drop, Res, ok, no, byte}
 use Rattle.text.specs.declared.refusal.Refusal.TheVariants.{NoRoom}
-use Rattle.print.specs.Print.{printedRes, Prints}
+use Rattle.print.specs.Print.{printed_res, Prints}
 use Rattle.print.specs.declared.printed.Printed.{Printed}
-use Rattle.table.specs.Table.{readTable, tableRead}
+use Rattle.table.specs.Table.{read_table, table_read}
 use Rattle.table.specs.declared.TableRead.{TableRead}
-use Rattle.records.specs.Record.{readLine, readingRes}
+use Rattle.records.specs.Record.{read_line_of, reading_res}
 use Rattle.records.specs.declared.{Record.Record, Reading.TheVariants.Accepted}
-use Rattle.record_print.specs.Printed.{recordText, reprinted}
-use Rattle.promises.specs.Odd.{lineOdd, comesAlways}
+use Rattle.record_print.specs.Printed.{record_text, reprinted}
+use Rattle.promises.specs.Odd.{line_odd, comes_always}
 use Rattle.text.specs.Spelt.{spelt}
 
 -- `Record::parse_line` accepted the line s as the record r, and `Table::parse` handed t over for it.
 pub record Parsed (s : List ℕ) (r : Record) (t : TableRead) : Type 0 where
-  pub answer : readingRes (Accepted r) ≡ readLine s
-  pub table : t ≡ tableRead (readTable s)
+  pub answer : reading_res (Accepted r) ≡ read_line_of s
+  pub table : t ≡ table_read (read_table s)
 
 -- The text m is the line s itself: into bytes that are long enough a printer writes the line; else it answers 10 and
 -- changes nothing.
 pub record Back (s : List ℕ) (m : Res (List ℕ)) : Type 0 where
   pub text : m ≡ ok s
   pub room : (b b' : List ℕ) (p : Printed) → Prints m b b' p → length s ≤ length b →
-      (printedRes p ≡ ok (length s)) × (b' ≡ s ++ drop (length s) b)
+      (printed_res p ≡ ok (length s)) × (b' ≡ s ++ drop (length s) b)
   pub no_room : (b b' : List ℕ) (p : Printed) → Prints m b b' p → length b < length s →
-      (printedRes p ≡ no NoRoom) × (b' ≡ b)
+      (printed_res p ≡ no NoRoom) × (b' ≡ b)
 
 -- The record of an accepted line s has the text m.
 pub record Reprints (s : List ℕ) (m : Res (List ℕ)) : Type 0 where
   -- There is a text, so printing is never refused with 9 or 5.
-  pub printed-accepted : (x : List ℕ) × (m ≡ ok x)
+  pub printed_accepted : (x : List ℕ) × (m ≡ ok x)
   -- Printed text equals the line unless the line is odd.
-  pub back : lineOdd s ≡ false → Back s m
+  pub back : line_odd s ≡ false → Back s m
   -- An odd line never does.
-  pub odd : lineOdd s ≡ true → m ≡ ok s → ⊥
+  pub odd : line_odd s ≡ true → m ≡ ok s → ⊥
   -- H lines always come back, and D, G and L lines too.
-  pub always : comesAlways (byte 0 s) ≡ true → Back s m
+  pub always : comes_always (byte 0 s) ≡ true → Back s m
 
--- `print_record` prints `recordText` of the record, its table and its line.
+-- `print_record` prints `record_text` of the record, its table and its line.
 abbrev pub ComesBack : Type 0
-ComesBack = (s : List ℕ) (r : Record) (t : TableRead) → Parsed s r t → Reprints s (recordText r t.table s)
+ComesBack = (s : List ℕ) (r : Record) (t : TableRead) → Parsed s r t → Reprints s (record_text r t.table s)
 
 -- ---- each exception is needed: accepted lines and what they print as
 
 -- Each exception is needed: a line of it that does not come back.
 pub record Needed : Type 0 where
   -- The A line was in letter form.
-  pub letter-form : reprinted (spelt "AC00069") ≡ ok (spelt "ACAM00069")
+  pub letter_form_lem : reprinted (spelt "AC00069") ≡ ok (spelt "ACAM00069")
   -- A number was written with `+`: B lines,
   pub time : reprinted (spelt "B10+5304712345N01102500EA0152301561") ≡ ok (spelt "B1005304712345N01102500EA0152301561")
   pub latitude : reprinted (spelt "B101530+712345N01102500EA0152301561")
       ≡ ok (spelt "B1015300712345N01102500EA0152301561")
   pub longitude : reprinted (spelt "B1015304712345N011+2500EA0152301561")
       ≡ ok (spelt "B1015304712345N01102500EA0152301561")
-  pub pressure-height : reprinted (spelt "B1015304712345N01102500EA+152301561")
+  pub pressure_height : reprinted (spelt "B1015304712345N01102500EA+152301561")
       ≡ ok (spelt "B1015304712345N01102500EA0152301561")
-  pub gps-height : reprinted (spelt "B1015304712345N01102500EA01523+1561")
+  pub gps_height : reprinted (spelt "B1015304712345N01102500EA01523+1561")
       ≡ ok (spelt "B1015304712345N01102500EA0152301561")
   -- C lines,
   pub turnpoint : reprinted (spelt "C47+2345N01102500E") ≡ ok (spelt "C4702345N01102500E")
   pub date : reprinted (spelt "C+30718092044000000000204") ≡ ok (spelt "C030718092044000000000204")
-  pub declaration-time : reprinted (spelt "C230718+92044000000000204") ≡ ok (spelt "C230718092044000000000204")
-  pub flight-date : reprinted (spelt "C230718092044+50718000204") ≡ ok (spelt "C230718092044050718000204")
+  pub declaration_time : reprinted (spelt "C230718+92044000000000204") ≡ ok (spelt "C230718092044000000000204")
+  pub flight_date : reprinted (spelt "C230718092044+50718000204") ≡ ok (spelt "C230718092044050718000204")
   pub task : reprinted (spelt "C230718092044000000+00204") ≡ ok (spelt "C230718092044000000000204")
   pub count : reprinted (spelt "C2307180920440000000002+4") ≡ ok (spelt "C230718092044000000000204")
   -- I and J lines,
@@ -69,13 +69,13 @@ pub record Needed : Type 0 where
   pub start : reprinted (spelt "I01+638FXA") ≡ ok (spelt "I010638FXA")
   pub end : reprinted (spelt "J0108+9HDT") ≡ ok (spelt "J010809HDT")
   -- K, E and F lines.
-  pub data-time : reprinted (spelt "K10+53000270") ≡ ok (spelt "K10053000270")
-  pub event-time : reprinted (spelt "E+10530PEV") ≡ ok (spelt "E010530PEV")
-  pub satellites-time : reprinted (spelt "F1015+00607") ≡ ok (spelt "F1015000607")
+  pub data_time : reprinted (spelt "K10+53000270") ≡ ok (spelt "K10053000270")
+  pub event_time : reprinted (spelt "E+10530PEV") ≡ ok (spelt "E010530PEV")
+  pub satellites_time : reprinted (spelt "F1015+00607") ≡ ok (spelt "F1015000607")
   -- A height was `-0000`.
-  pub pressure-zero : reprinted (spelt "B1015304712345N01102500EA-000001561")
+  pub pressure_zero : reprinted (spelt "B1015304712345N01102500EA-000001561")
       ≡ ok (spelt "B1015304712345N01102500EA0000001561")
-  pub gps-zero : reprinted (spelt "B1015304712345N01102500EA01523-0000")
+  pub gps_zero : reprinted (spelt "B1015304712345N01102500EA01523-0000")
       ≡ ok (spelt "B1015304712345N01102500EA0152300000")
   -- A count was `-0`.
-  pub count-zero : reprinted (spelt "C2307180920440000000002-0") ≡ ok (spelt "C230718092044000000000200")
+  pub count_zero : reprinted (spelt "C2307180920440000000002-0") ≡ ok (spelt "C230718092044000000000200")

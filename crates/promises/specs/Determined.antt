@@ -4,44 +4,44 @@
 -- leaves, as one value ≡ a definition; Took, of lines taken into lent bytes. In each way, any two permitted answers are
 -- equal, and so are the bytes that they leave. (Of the first there is nothing to prove.)
 use Rattle.std.specs.Borrow.{Bor}
-use Rattle.text.specs.Prelude.{ℕ, ◌≡◌, List, RefT, now, Res}
-use Rattle.text.specs.Number.{u8Res, u16Res, i8Res, i16Res}
-use Rattle.part.specs.Part.{foundRes, Shows}
+use Rattle.text.specs.Prelude.{ℕ, ◌≡◌, List, RefT, Res}
+use Rattle.text.specs.Number.{u8_res, u16_res, i8_res, i16_res}
+use Rattle.part.specs.Part.{found_res, Shows}
 use Rattle.part.specs.declared.Part.{Part}
 use Rattle.put.specs.Put.{Wrote}
 use Rattle.print.specs.Print.{Prints}
 use Rattle.print.specs.declared.printed.Printed.{Printed}
-use Rattle.three.specs.Three.{threeRes}
-use Rattle.time.specs.Time.{timeRes}
-use Rattle.date.specs.Date.{dateRes}
-use Rattle.raw_coord.specs.Coord.{coordRes}
-use Rattle.coord.specs.Coord.{latitudeRes, longitudeRes}
-use Rattle.position.specs.Position.{positionRes}
-use Rattle.satellites.specs.Satellites.{satellitesRes}
-use Rattle.extension.specs.Extension.{extensionRes}
-use Rattle.a_record.specs.ARecord.{aRes}
-use Rattle.b_record.specs.BRecord.{validRes, bRes}
-use Rattle.c_record.specs.CRecord.{declarationRes}
-use Rattle.c_turnpoint_record.specs.CTurnpoint.{turnpointRes}
-use Rattle.d_record.specs.DRecord.{qualifierRes, dRes}
-use Rattle.e_record.specs.ERecord.{eRes}
-use Rattle.f_record.specs.FRecord.{fRes}
-use Rattle.g_record.specs.GRecord.{gRes}
-use Rattle.h_record.specs.HRecord.{hRes}
-use Rattle.k_record.specs.KRecord.{kRes}
-use Rattle.l_record.specs.LRecord.{lRes}
-use Rattle.records.specs.Record.{readingRes}
-use Rattle.report.specs.Report.{figuresIn}
-use Rattle.reported.specs.Reported.{soFarIn}
-use Rattle.span.specs.Span.{pressureOver, gpsOver}
-use Rattle.total.specs.Total.{totalIn, addedIn, joinedIn}
+use Rattle.three.specs.Three.{three_res}
+use Rattle.time.specs.Time.{time_res}
+use Rattle.date.specs.Date.{date_res}
+use Rattle.raw_coord.specs.Coord.{coord_res}
+use Rattle.coord.specs.Coord.{latitude_res, longitude_res}
+use Rattle.position.specs.Position.{position_res}
+use Rattle.satellites.specs.Satellites.{satellites_res}
+use Rattle.extension.specs.Extension.{extension_res}
+use Rattle.a_record.specs.ARecord.{a_res}
+use Rattle.b_record.specs.BRecord.{valid_res, b_res}
+use Rattle.c_record.specs.CRecord.{declaration_res}
+use Rattle.c_turnpoint_record.specs.CTurnpoint.{turnpoint_res}
+use Rattle.d_record.specs.DRecord.{qualifier_res, d_res}
+use Rattle.e_record.specs.ERecord.{e_res}
+use Rattle.f_record.specs.FRecord.{f_res}
+use Rattle.g_record.specs.GRecord.{g_res}
+use Rattle.h_record.specs.HRecord.{h_res}
+use Rattle.k_record.specs.KRecord.{k_res}
+use Rattle.l_record.specs.LRecord.{l_res}
+use Rattle.records.specs.Record.{reading_res}
+use Rattle.report.specs.Report.{figures_in}
+use Rattle.reported.specs.Reported.{so_far_in}
+use Rattle.span.specs.Span.{pressure_over, gps_over}
+use Rattle.total.specs.Total.{total_in, added_in, joined_in}
 use Rattle.block_read.specs.Block.{block_read}
-use Rattle.sheet_read.specs.Sheet.{sheetIn}
+use Rattle.sheet_read.specs.Sheet.{sheet_in}
 use Rattle.watch_text.specs.Feed.{view}
-use Rattle.log.specs.Log.{Reader, LineRead}
-use Rattle.log.specs.Fold.{Carried}
-use Rattle.log.specs.Taking.{Took}
-use Rattle.log.specs.declared.Cut.{Cut}
+use Rattle.igc_log.specs.Log.{Reader, LineRead}
+use Rattle.igc_log.specs.Fold.{Carried}
+use Rattle.igc_log.specs.Taking.{Took}
+use Rattle.igc_log.specs.declared.Cut.{Cut}
 use Rattle.ahead.specs.Ahead.{Ahead}
 use Rattle.caption.specs.Caption.{Where, ShowsOne}
 use Rattle.task_line.specs.Lines.{Sees}
@@ -56,54 +56,54 @@ Tells {A} {E} view = (r q : E) → view r ≡ view q → r ≡ q
 
 -- Whatever form a contract takes, two answers that it permits are equal.
 pub record Determined : Type 1 where
-  pub u8 : Tells u8Res
-  pub u16 : Tells u16Res
-  pub i8 : Tells i8Res
-  pub i16 : Tells i16Res
-  pub found : Tells foundRes
-  pub three : Tells threeRes
-  pub time : Tells timeRes
-  pub date : Tells dateRes
-  pub coord : Tells coordRes
-  pub latitude : Tells latitudeRes
-  pub longitude : Tells longitudeRes
-  pub position : Tells positionRes
-  pub satellites : Tells satellitesRes
-  pub extension : Tells extensionRes
-  pub a : Tells aRes
-  pub fix : Tells validRes
-  pub b : Tells bRes
-  pub declaration : Tells declarationRes
-  pub turnpoint : Tells turnpointRes
-  pub qualifier : Tells qualifierRes
-  pub d : Tells dRes
-  pub e : Tells eRes
-  pub f : Tells fRes
-  pub g : Tells gRes
-  pub h : Tells hRes
-  pub k : Tells kRes
-  pub l : Tells lRes
-  pub reading : Tells readingRes
-  pub report : Tells figuresIn
-  pub so_far : Tells soFarIn
-  pub pressure-span : Tells pressureOver
-  pub gps-span : Tells gpsOver
-  pub total : Tells totalIn
-  pub added : Tells addedIn
-  pub joined : Tells joinedIn
+  pub u8 : Tells u8_res
+  pub u16 : Tells u16_res
+  pub i8 : Tells i8_res
+  pub i16 : Tells i16_res
+  pub found : Tells found_res
+  pub three : Tells three_res
+  pub time : Tells time_res
+  pub date : Tells date_res
+  pub coord : Tells coord_res
+  pub latitude : Tells latitude_res
+  pub longitude : Tells longitude_res
+  pub position : Tells position_res
+  pub satellites : Tells satellites_res
+  pub extension : Tells extension_res
+  pub a : Tells a_res
+  pub fix : Tells valid_res
+  pub b : Tells b_res
+  pub declaration : Tells declaration_res
+  pub turnpoint : Tells turnpoint_res
+  pub qualifier : Tells qualifier_res
+  pub d : Tells d_res
+  pub e : Tells e_res
+  pub f : Tells f_res
+  pub g : Tells g_res
+  pub h : Tells h_res
+  pub k : Tells k_res
+  pub l : Tells l_res
+  pub reading : Tells reading_res
+  pub report : Tells figures_in
+  pub so_far : Tells so_far_in
+  pub pressure_span : Tells pressure_over
+  pub gps_span : Tells gps_over
+  pub total : Tells total_in
+  pub added : Tells added_in
+  pub joined : Tells joined_in
   pub block : Tells block_read
-  pub sheet : Tells sheetIn
+  pub sheet : Tells sheet_in
   pub watch : Tells view
   pub ahead : {s : List ℕ} {at : ℕ} {r₁ r₂ : Cut} → Ahead s at r₁ → Ahead s at r₂ → r₁ ≡ r₂
   pub sees : {s : List ℕ} {at : ℕ} {r₁ r₂ : Seen} → Sees s at r₁ → Sees s at r₂ → r₁ ≡ r₂
   pub shows : {line r₁ r₂ : Bor (List ℕ)} {p : Part} → Shows line p r₁ → Shows line p r₂ →
-      (now r₁ ≡ now r₂) × (r₁.ptr ≡ r₂.ptr)
-  pub shows-one : {line labels r₁ r₂ : Bor (List ℕ)} {w : Where} → ShowsOne line labels w r₁ →
-      ShowsOne line labels w r₂ → (now r₁ ≡ now r₂) × (r₁.ptr ≡ r₂.ptr)
+      (r₁.now ≡ r₂.now) × (r₁.ptr ≡ r₂.ptr)
+  pub shows_one : {line labels r₁ r₂ : Bor (List ℕ)} {w : Where} → ShowsOne line labels w r₁ →
+      ShowsOne line labels w r₂ → (r₁.now ≡ r₂.now) × (r₁.ptr ≡ r₂.ptr)
   pub wrote : {b t b₁ b₂ : List ℕ} {at r₁ r₂ : ℕ} → Wrote b at t b₁ r₁ → Wrote b at t b₂ r₂ → (r₁ ≡ r₂) × (b₁ ≡ b₂)
   pub prints : {m : Res (List ℕ)} {b b₁ b₂ : List ℕ} {r₁ r₂ : Printed} → Prints m b b₁ r₁ → Prints m b b₂ r₂ →
       (r₁ ≡ r₂) × (b₁ ≡ b₂)
-  pub prints-sheet : {m : Sheet} {b b₁ b₂ : List ℕ} {r₁ r₂ : TaskPrinted} → PrintsSheet m b b₁ r₁ →
+  pub prints_sheet : {m : Sheet} {b b₁ b₂ : List ℕ} {r₁ r₂ : TaskPrinted} → PrintsSheet m b b₁ r₁ →
       PrintsSheet m b b₂ r₂ → (r₁ ≡ r₂) × (b₁ ≡ b₂)
   pub outs : {o : Out} {r₁ r₂ : ℕ} {b₁ b₂ : List ℕ} → o ≡ record { sum = r₁; bytes = b₁ } →
       o ≡ record { sum = r₂; bytes = b₂ } →

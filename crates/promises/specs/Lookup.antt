@@ -5,37 +5,37 @@ use Rattle.text.specs.declared.refusal.Refusal.TheVariants.{NoTable, SpoiledTabl
 use Rattle.text.specs.declared.refusal.Refusal.TheVariants.{BadExtension, MissingExtension}
 use Rattle.part.specs.declared.Part.{Part}
 use Rattle.field.specs.declared.Mnemonic.{Mnemonic}
-use Rattle.table.specs.Table.{defsOf}
+use Rattle.table.specs.Table.{defs_of}
 use Rattle.extension.specs.declared.Extension.{Extension}
-use Rattle.held.specs.Held.{firstNamed, define, lookUp}
+use Rattle.held.specs.Held.{first_named_of, define, look_up}
 use Rattle.held.specs.declared.{Held.Held, Slot.Slot}
 
 module _ (base : ℕ) (rest : Part) (h : Held) (name : Mnemonic) (s : List ℕ) where
   -- The table in force defines the name as e.
   pub record Defined (e : Extension) : Type 0 where
-    pub in-force : h.slot ≡ Slot.Set
+    pub in_force_lem : h.slot ≡ Slot.Set
     pub count : h.table.count ≤ 99
-    pub first : firstNamed name (defsOf h.table) ≡ ok e
+    pub first : first_named_of name (defs_of h.table) ≡ ok e
 
   -- Why a lookup refuses with n, in the order of the checks.
   pub data Why (n : Refusal) : Type 0 where
     no_line : n ≡ NoTable → h.slot ≡ Slot.Never → Why n
-    last-refused : n ≡ SpoiledTable → h.slot ≡ Slot.Spoiled → Why n
-    over-99 : n ≡ NotDefined → 99 < h.table.count → Why n
-    no_name : n ≡ NotDefined → firstNamed name (defsOf h.table) ≡ no NotDefined → Why n
+    last_refused : n ≡ SpoiledTable → h.slot ≡ Slot.Spoiled → Why n
+    over_99 : n ≡ NotDefined → 99 < h.table.count → Why n
+    no_name : n ≡ NotDefined → first_named_of name (defs_of h.table) ≡ no NotDefined → Why n
     outside : n ≡ OutsideLine → length s < rest.start + rest.len → Why n
-    start-in-base : n ≡ BadExtension → (e : Extension) → Defined e → e.start_byte ≤ base → Why n
-    end-before-start : n ≡ BadExtension → (e : Extension) → Defined e → e.end_byte < e.start_byte → Why n
-    past-the-rest : n ≡ MissingExtension → (e : Extension) → Defined e → rest.len < e.end_byte - base → Why n
+    start_in_base : n ≡ BadExtension → (e : Extension) → Defined e → e.start_byte ≤ base → Why n
+    end_before_start : n ≡ BadExtension → (e : Extension) → Defined e → e.end_byte < e.start_byte → Why n
+    past_the_rest : n ≡ MissingExtension → (e : Extension) → Defined e → rest.len < e.end_byte - base → Why n
 
   -- No case but those named refuses.
   abbrev pub Refuses : Type 0
-  Refuses = (n : Refusal) → lookUp base rest h name s ≡ no n → Why n
+  Refuses = (n : Refusal) → look_up base rest h name s ≡ no n → Why n
 
   -- Which of 13, 14 and 15 holds follows from the state and the name alone: on whatever line, it is the definition's
   -- refusal.
   abbrev pub StateAlone : Type 0
-  StateAlone = (n : Refusal) → 13 ≤ number_of n → lookUp base rest h name s ≡ no n → define h name ≡ no n
+  StateAlone = (n : Refusal) → 13 ≤ number_of n → look_up base rest h name s ≡ no n → define h name ≡ no n
 
   -- In every other it gives the part of the rest from start - (base + 1) up to end - base.
   abbrev pub Gives : Type 0
@@ -43,7 +43,7 @@ module _ (base : ℕ) (rest : Part) (h : Held) (name : Mnemonic) (s : List ℕ) 
       (e : Extension) → Defined e → rest.start + rest.len ≤ length s → base < e.start_byte
       → e.start_byte ≤ e.end_byte
       → e.end_byte - base ≤ rest.len
-      → lookUp base rest h name s
+      → look_up base rest h name s
       ≡ ok (record {
         start = rest.start + (e.start_byte - (base + 1));
         len = (e.end_byte - base) - (e.start_byte - (base + 1));

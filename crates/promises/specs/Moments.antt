@@ -1,18 +1,18 @@
 -- Going to a moment: the answer by the log's own index, said over the readings of a fresh walk as one would check it.
 use Rattle.text.specs.Prelude.{ℕ, ◌≡◌, List, [], ◌∷◌, ok}
-use Rattle.time.specs.Time.{timeOf}
+use Rattle.time.specs.Time.{time_of}
 use Rattle.time.specs.declared.Time.{Time}
 use Rattle.b_record.specs.declared.BRecord.{BRecord}
-use Rattle.records.specs.Record.{answerFix}
+use Rattle.records.specs.Record.{answer_fix}
 use Rattle.records.specs.declared.MaybeFix.{MaybeFix}
-use Rattle.log.specs.Log.{readings}
+use Rattle.igc_log.specs.Log.{readings}
 use Rattle.walk.specs.Readings.{Line-read, reader}
 use Rattle.moment_fix.specs.declared.Moment.{Moment}
-use Rattle.moment.specs.Moment.{index_of, byIndex}
+use Rattle.moment.specs.Moment.{index_of, by_index}
 
 -- The reading is an accepted B line, b, with those hours, minutes and seconds.
 pub record Has (t : Time) (x : Line-read) (b : BRecord) : Type 0 where
-  pub fix : answerFix x.answer ≡ MaybeFix.Fix b
+  pub fix : answer_fix x.answer ≡ MaybeFix.Fix b
   pub hours : b.timestamp.hours ≡ t.hours
   pub minutes : b.timestamp.minutes ≡ t.minutes
   pub seconds : b.timestamp.seconds ≡ t.seconds
@@ -40,5 +40,5 @@ Tells t xs (Moment.Refused n) = ⊥
 -- Of every time that `from_hms` takes the log's own index gives the first fix of the whole log, wherever those of its
 -- hour stand, or there is none.
 pub record Moments : Type 0 where
-  pub first : (log : List ℕ) (h m s : ℕ) (t : Time) → timeOf h m s ≡ ok t →
-      Tells t (readings reader log) (byIndex (index_of log) log (timeOf h m s))
+  pub first : (log : List ℕ) (h m s : ℕ) (t : Time) → time_of h m s ≡ ok t →
+      Tells t (readings reader log) (by_index (index_of log) log (time_of h m s))

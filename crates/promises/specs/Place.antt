@@ -1,13 +1,13 @@
 -- Where a refusal with 3 points: on the columns of the field that was refused, and so inside the line.
-use Rattle.text.specs.Prelude.{ℕ, ◌≤◌, ◌<◌, ◌≡◌, List, length, Res, no, columns, readNat, readInt, largest}
+use Rattle.text.specs.Prelude.{ℕ, ◌≤◌, ◌<◌, ◌≡◌, List, length, Res, no, columns, read_nat_of, read_int_of, largest}
 use Rattle.text.specs.declared.refusal.Refusal.TheVariants.{UnreadableNumber}
-use Rattle.date.specs.Date.{readDate}
-use Rattle.time.specs.Time.{readTime}
-use Rattle.coord.specs.Coord.{readLatitude, readLongitude}
-use Rattle.position.specs.Position.{readPosition}
-use Rattle.satellites.specs.Satellites.{readSatellites}
-use Rattle.extension.specs.Extension.{readExtension}
-use Rattle.records.specs.Record.{readLine}
+use Rattle.date.specs.Date.{read_date}
+use Rattle.time.specs.Time.{read_time_of}
+use Rattle.coord.specs.Coord.{read_latitude, read_longitude}
+use Rattle.position.specs.Position.{read_position}
+use Rattle.satellites.specs.Satellites.{read_satellites}
+use Rattle.extension.specs.Extension.{read_extension}
+use Rattle.records.specs.Record.{read_line_of}
 
 -- The place that the answer m may carry lies from column a on, and before column b.
 abbrev pub PointsIn : {A : Type 0} → ℕ → ℕ → Res A → Type 0
@@ -19,15 +19,15 @@ Points read = (s : List ℕ) → 1 ≤ length s → length s ≤ largest → Poi
 
 -- Each reader points so, and in columns of a longer text it points on these columns.
 pub record Placed : Type 1 where
-  pub on-columns : {A : Type 0} (read : List ℕ → Res A) → Points read → (a b : ℕ) (s : List ℕ) →
+  pub on_columns : {A : Type 0} (read : List ℕ → Res A) → Points read → (a b : ℕ) (s : List ℕ) →
       a < b → b ≤ length s → length s ≤ largest → PointsIn a b (columns a b read s)
-  pub nat : (most : ℕ) → Points (readNat most)
-  pub int : (most : ℕ) → Points (readInt most)
-  pub time : Points readTime
-  pub date : Points readDate
-  pub latitude : Points readLatitude
-  pub longitude : Points readLongitude
-  pub position : Points readPosition
-  pub satellites : Points readSatellites
-  pub definition : Points readExtension
-  pub line : Points readLine
+  pub nat : (most : ℕ) → Points (read_nat_of most)
+  pub int : (most : ℕ) → Points (read_int_of most)
+  pub time : Points read_time_of
+  pub date : Points read_date
+  pub latitude : Points read_latitude
+  pub longitude : Points read_longitude
+  pub position : Points read_position
+  pub satellites : Points read_satellites
+  pub definition : Points read_extension
+  pub line : Points read_line_of

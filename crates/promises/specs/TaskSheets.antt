@@ -1,34 +1,34 @@
 -- The task sheet: its captions in plain words, and the lines after the last point.
 use Rattle.text.specs.Prelude.{ℕ, zero, suc, ◌≡◌, true, List, [], ◌∷◌, ◌++◌, map, length, pick, ◌=?◌}
-use Rattle.part.specs.Part.{maybeBytes}
+use Rattle.part.specs.Part.{maybe_bytes}
 use Rattle.c_turnpoint_record.specs.declared.CRecordTurnpoint.{CRecordTurnpoint}
-use Rattle.log.specs.Line.{lineText}
-use Rattle.log.specs.Log.{chunks, closed}
-use Rattle.caption.specs.Caption.{captionText}
-use Rattle.task.specs.Sheet.{sheet, sheetOf}
+use Rattle.igc_log.specs.Line.{line_text}
+use Rattle.igc_log.specs.Log.{chunks, closed}
+use Rattle.caption.specs.Caption.{caption_text}
+use Rattle.task.specs.Sheet.{sheet, sheet_of}
 
 -- The n-th of some texts, from 1; empty where they are fewer.
-unfoldable pub nthText : ℕ → List (List ℕ) → List ℕ
-nthText zero ts = []
-nthText (suc n) [] = []
-nthText (suc zero) (t ∷ ts) = t
-nthText (suc (suc n)) (t ∷ ts) = nthText (suc n) ts
+unfoldable pub nth_text : ℕ → List (List ℕ) → List ℕ
+nth_text zero ts = []
+nth_text (suc n) [] = []
+nth_text (suc zero) (t ∷ ts) = t
+nth_text (suc (suc n)) (t ∷ ts) = nth_text (suc n) ts
 
 -- The n-th label: the labels are lines, cut as those of a log are.
-unfoldable pub labelText : ℕ → List ℕ → List ℕ
-labelText n labels = nthText n (map lineText (chunks labels))
+unfoldable pub label_text : ℕ → List ℕ → List ℕ
+label_text n labels = nth_text n (map line_text (chunks labels))
 
 -- The name as its view shows it; where that is empty, the label.
-unfoldable pub nameOrLabel : CRecordTurnpoint → ℕ → List ℕ → List ℕ → List ℕ
-nameOrLabel point n line labels =
-    let name = maybeBytes point.turnpoint_name line in pick (length name =? 0) (labelText n labels) name
+unfoldable pub name_or_label : CRecordTurnpoint → ℕ → List ℕ → List ℕ → List ℕ
+name_or_label point n line labels =
+    let name = maybe_bytes point.turnpoint_name line in pick (length name =? 0) (label_text n labels) name
 
 -- The caption's bytes are these.
 abbrev pub InWords : Type 0
 InWords = (point : CRecordTurnpoint) (n : ℕ) (line labels : List ℕ) →
-    captionText point n line labels ≡ nameOrLabel point n line labels
+    caption_text point n line labels ≡ name_or_label point n line labels
 
 -- Lines after the last point do not matter: whatever stands behind whole lines that have a sheet, it is the same.
 abbrev pub LaterLines : Type 0
 LaterLines = (log more labels t : List ℕ) → closed log ≡ true →
-    sheetOf log labels ≡ sheet t → sheetOf (log ++ more) labels ≡ sheet t
+    sheet_of log labels ≡ sheet t → sheet_of (log ++ more) labels ≡ sheet t

@@ -14,6 +14,6 @@ by_sign South x = neg x
 by_sign West x = neg x
 
 -- Degrees + thousandths / 60000.
-unfoldable pub degreesOf : Format → RawCoord → Float
-degreesOf f c = by_sign c.sign
+unfoldable pub degrees_of : Format → RawCoord → Float
+degrees_of f c = by_sign c.sign
     (add f (of_int f (pos c.degrees)) (div f (of_int f (pos c.minute_thousandths)) (of_int f (pos 60000))))

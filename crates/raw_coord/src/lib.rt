@@ -5,15 +5,15 @@ ghost use Rattle.std.specs.Prelude.{◌≡◌, ◌+◌};
 ghost use Rattle.text.specs.Res.{◌=?◌, ◌∨?◌};
 ghost use Rattle.field.specs.Field.{sized};
 ghost use Rattle.put.specs.Put.{Wrote};
-ghost use Rattle.raw_coord.specs.Coord.{compassLetter, sign_of, coordOf, lettered, readCoord, newCoord, coordText};
-ghost use Rattle.raw_coord.specs.Coord.{coordBook, compassRes, coordRes};
+ghost use Rattle.raw_coord.specs.Coord.{compass_letter, sign_of, coord_of, lettered, read_coord, new_coord, coord_text};
+ghost use Rattle.raw_coord.specs.Coord.{coord_book, compass_res, coord_res};
 
 use print::number::put_nat;
 use put::put_byte;
 use text::number::{U8Read, U16Read, read_u8, read_u16};
 use text::refusal::Refusal;
 
-#[derive(Drop)]
+#[derive(Clone, Copy)]
 pub enum Compass {
     North,
     South,
@@ -22,20 +22,20 @@ pub enum Compass {
 }
 
 // A latitude or a longitude, of any values.
-#[derive(Drop)]
+#[derive(Clone, Copy)]
 pub struct RawCoord {
     pub minute_thousandths: u16,
     pub degrees: u8,
     pub sign: Compass,
 }
 
-#[derive(Drop)]
+#[derive(Clone, Copy)]
 enum CompassRead {
     Ok(Compass),
     Refused(Refusal),
 }
 
-#[derive(Drop)]
+#[derive(Clone, Copy)]
 pub enum CoordRead {
     Ok(RawCoord),
     Refused(Refusal),
@@ -44,7 +44,7 @@ pub enum CoordRead {
 impl Compass {
     // N, S, E or W.
     pub fn letter(self) -> u8
-        ensures { result ≡ compassLetter self }
+        ensures { result ≡ compass_letter self }
     {
         match self {
             Compass::North => b'N',
@@ -57,7 +57,7 @@ impl Compass {
 
 // x or y, by its letter.
 fn sign_of(letter: u8, x: Compass, y: Compass) -> CompassRead
-    ensures { compassRes result ≡ sign_of x y letter }
+    ensures { compass_res result ≡ sign_of x y letter }
 {
     if letter == x.letter() {
         return CompassRead::Ok(x);
@@ -70,7 +70,7 @@ fn sign_of(letter: u8, x: Compass, y: Compass) -> CompassRead
 
 // The direction is x or y.
 fn one_of(sign: Compass, x: Compass, y: Compass) -> bool
-    ensures { result ≡ ((compassLetter sign =? compassLetter x) ∨? (compassLetter sign =? compassLetter y)) }
+    ensures { result ≡ ((compass_letter sign =? compass_letter x) ∨? (compass_letter sign =? compass_letter y)) }
 {
     let letter = sign.letter();
     if letter == x.letter() {
@@ -82,7 +82,7 @@ fn one_of(sign: Compass, x: Compass, y: Compass) -> bool
 impl RawCoord {
     // A coordinate as reading takes it: 60000 thousandths pass.
     fn within(limit: u8, degrees: u8, thousandths: u16, sign: Compass) -> CoordRead
-        ensures { coordRes result ≡ coordOf limit degrees thousandths sign }
+        ensures { coord_res result ≡ coord_of limit degrees thousandths sign }
     {
         if degrees <= limit {
             if thousandths <= 60000 {
@@ -105,7 +105,7 @@ impl RawCoord {
         thousandths: u16,
         letter: u8,
     ) -> CoordRead
-        ensures { coordRes result ≡ lettered limit x y degrees thousandths letter }
+        ensures { coord_res result ≡ lettered limit x y degrees thousandths letter }
     {
         match sign_of(letter, x, y) {
             CompassRead::Ok(sign) => RawCoord::within(limit, degrees, thousandths, sign),
@@ -122,7 +122,7 @@ impl RawCoord {
         thousandths: u16,
         sign: Compass,
     ) -> CoordRead
-        ensures { coordRes result ≡ newCoord limit x y degrees thousandths sign }
+        ensures { coord_res result ≡ new_coord limit x y degrees thousandths sign }
     {
         if degrees <= limit {
             if thousandths <= 59999 {
@@ -140,7 +140,7 @@ impl RawCoord {
 
     // d characters of degrees, five of thousandths, a letter, in a text that the caller knows to be ASCII.
     pub fn parse_ascii(text: &[u8], d: usize, limit: u8, x: Compass, y: Compass) -> CoordRead
-        ensures { coordRes result ≡ sized (d + 6) (readCoord d limit x y) text.now }
+        ensures { coord_res result ≡ sized (d + 6) (read_coord d limit x y) text.now }
     {
         if text.len() < 6 {
             return CoordRead::Refused(Refusal::WrongLength);
@@ -162,7 +162,7 @@ impl RawCoord {
 
     // A coordinate up to a limit, which only latitude and longitude know.
     pub fn by_the_book(self, limit: u8) -> bool
-        ensures { result ≡ coordBook limit self }
+        ensures { result ≡ coord_book limit self }
     {
         if self.degrees == limit {
             return self.minute_thousandths == 0;
@@ -175,7 +175,7 @@ impl RawCoord {
 
     // Degrees in width d.
     pub fn put(self, buf: &mut [u8], at: usize, d: usize) -> usize
-        ensures { Wrote buf.old at (coordText d self) buf.new result }
+        ensures { Wrote buf.old at (coord_text d self) buf.new result }
     {
         let sign = self.sign;
         let at_minutes = put_nat(buf, at, self.degrees as u64, d);

@@ -34,15 +34,15 @@ L κs = T'.the_laws (named_lft 1 0 tt κs)
 abbrev pub whole_val : LogReader → Val
 whole_val d = T'.lowered d
 
-abbrev pub log-val : LogReader → Val
-log-val d = slice_val d.log.ref_ptr (length d.log.now)
+abbrev pub log_val : LogReader → Val
+log_val d = slice_val d.log.ref_ptr (length d.log.now)
 
 module _ (κ : Lft) (d : LogReader) where
   abbrev pub Own : Fml
   Own = (B (κ, tt)).own_val d (whole_val d ∷ [])
 
   abbrev pub OwnLog : Fml
-  OwnLog = (ShrSlice (named 0) κ u8).own_val d.log (log-val d ∷ [])
+  OwnLog = (ShrSlice (named 0) κ u8).own_val d.log (log_val d ∷ [])
 
   abbrev pub vals : Values (D (κ, tt)).parts
   vals = (d.log, (d.place, (d.number, tt)))
@@ -61,8 +61,8 @@ module _ {M : Type 1} {𝓤 : Ura M} (𝓛 : Logic 𝓤) (κ : Lft) (d : LogRead
       (own_open 𝓛 (D (κ, tt)) (L (κ, tt)) (vals κ d) (whole_val d)) $ learn ! (λ _. frame ! $ done !)
 
   -- it gives what its log owns, and is kept
-  pub log-of : ent 𝓤 (sem 𝓛 (Own κ d)) (sep 𝓤 (sem 𝓛 (OwnLog κ d)) (sem 𝓛 (Own κ d)))
-  log-of =
+  pub log_of : ent 𝓤 (sem 𝓛 (Own κ d)) (sep 𝓤 (sem 𝓛 (OwnLog κ d)) (sem 𝓛 (Own κ d)))
+  log_of =
       qed 𝓛 (‵ (Own κ d) ∷ []) ∵
       use1 𝓛 (‵ (OwnFields κ d) ⊛ ‵ (Own κ d)) fields $ split ! $
       use1 𝓛 (‵ (field_own (D (κ, tt)).parts (L (κ, tt)) 0 d.log) ⊛ ‵

@@ -1,11 +1,11 @@
 -- A reader of a lent log, and what it shows at its place.
 use Rattle.std.specs.Borrow.{Bor}
-use Rattle.text.specs.Prelude.{ℕ, zero, suc, List, [], ◌∷◌, RefT, now}
-use Rattle.part.specs.Part.{bytes_of, findPart, shown}
+use Rattle.text.specs.Prelude.{ℕ, zero, suc, List, [], ◌∷◌, RefT}
+use Rattle.part.specs.Part.{bytes_of, find_part, shown}
 use Rattle.part.specs.declared.Part.{Part}
-use Rattle.log.specs.Line.{cut_at}
-use Rattle.records.specs.Record.{readLine}
-use Rattle.held.specs.Tables.{tablesAfter}
+use Rattle.igc_log.specs.Line.{cut_at}
+use Rattle.records.specs.Record.{read_line_of}
+use Rattle.held.specs.Tables.{tables_after}
 use Rattle.held.specs.declared.tables.Tables.{Tables}
 use Rattle.cursor.specs.Cursor.{next_of}
 use Rattle.walk.specs.Readings.{Line-read}
@@ -14,40 +14,40 @@ use Rattle.cursor.specs.declared.Next.TheVariants.{Line, Done}
 use Rattle.reader.specs.declared.LogReader.{LogReader}
 
 -- A reader of the lent log at a cursor of the walk.
-abbrev pub readerAt : Bor (List ℕ) → Cursor → LogReader
-readerAt log c = record { log = log; place = c.place; number = c.number }
+abbrev pub reader_at : Bor (List ℕ) → Cursor → LogReader
+reader_at log c = record { log = log; place = c.place; number = c.number }
 
 -- The walk's cursor that a reader carries.
-abbrev pub cursorOf : LogReader → Cursor
-cursorOf r = record { place = r.place; number = r.number }
+abbrev pub cursor_of : LogReader → Cursor
+cursor_of r = record { place = r.place; number = r.number }
 
 -- The line at a place, as the part of the log that is shown; past the log's end it is empty.
 abbrev pub part_at : ℕ → List ℕ → Part
-part_at place s = shown (findPart (cut_at place s).line s)
+part_at place s = shown (find_part (cut_at place s).line s)
 
 -- The text of that line.
-abbrev pub textAt : ℕ → List ℕ → List ℕ
-textAt place s = bytes_of (part_at place s) s
+abbrev pub text_at : ℕ → List ℕ → List ℕ
+text_at place s = bytes_of (part_at place s) s
 
 -- ---- what is handed out
 
 -- The reading of the line that `next_line` found, in front of what is read from the cursor after it.
-unfoldable pub handedBy : List ℕ → Tables → ℕ → Next → (Cursor → List Line-read) → List Line-read
-handedBy s h place Done later = []
-handedBy s h place (Line cut after) later =
+unfoldable pub handed_by : List ℕ → Tables → ℕ → Next → (Cursor → List Line-read) → List Line-read
+handed_by s h place Done later = []
+handed_by s h place (Line cut after) later =
     record {
       number = after.number;
       place = cut.line.start;
-      line = textAt place s;
-      answer = readLine (textAt place s);
-      held = tablesAfter h (textAt place s);
+      line = text_at place s;
+      answer = read_line_of (text_at place s);
+      held = tables_after h (text_at place s);
     }
     ∷ later after
 
 -- What k turns of the desk hand out, from a reader and what is held there: `next_line` finds the line, `line` shows its
 -- text, to which `Record::parse_line` answers, `tables` says what is held after it, and `moved` goes on.
-unfoldable pub handedOut : ℕ → LogReader → Tables → List Line-read
-handedOut zero r h = []
-handedOut (suc k) r h =
-    handedBy (now r.log) h r.place (next_of (now r.log) (cursorOf r))
-    (λ after. handedOut k (readerAt r.log after) (tablesAfter h (textAt r.place (now r.log))))
+unfoldable pub handed_out : ℕ → LogReader → Tables → List Line-read
+handed_out zero r h = []
+handed_out (suc k) r h =
+    handed_by (r.log.now) h r.place (next_of (r.log.now) (cursor_of r))
+    (λ after. handed_out k (reader_at r.log after) (tables_after h (text_at r.place (r.log.now))))

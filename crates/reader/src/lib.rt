@@ -1,15 +1,15 @@
 // The lent log with the walk's place and line number, for the desk: thin, over functions with plain parameters.
 ghost use Rattle.std.specs.Prelude.{◌≡◌};
 ghost use Rattle.part.specs.Part.{Shows};
-ghost use Rattle.held.specs.Tables.{tablesAfter};
+ghost use Rattle.held.specs.Tables.{tables_after};
 ghost use Rattle.cursor.specs.Cursor.{start, next_of};
-ghost use Rattle.reader.specs.Reader.{readerAt, cursorOf, part_at, textAt};
+ghost use Rattle.reader.specs.Reader.{reader_at, cursor_of, part_at, text_at};
 
 use cursor::{Cursor, Next};
 use held::tables::Tables;
-use log::line_at;
+use igc_log::line_at;
 
-#[derive(Drop)]
+#[derive(Clone, Copy)]
 pub struct LogReader<'a> {
     pub log: &'a [u8],
     pub place: usize,
@@ -28,7 +28,7 @@ pub fn next_at(log: &[u8], place: usize, number: u64) -> Next
 
 // What is held after that line: I and J lines set or spoil their tables.
 pub fn tables_at(log: &[u8], place: usize, held: Tables) -> Tables
-    ensures { result ≡ tablesAfter held (textAt place log.now) }
+    ensures { result ≡ tables_after held (text_at place log.now) }
 {
     let line = line_at(log, place);
     held.after(line)
@@ -38,7 +38,7 @@ pub fn tables_at(log: &[u8], place: usize, held: Tables) -> Tables
 
 // At the log's start, with no line read.
 pub fn open<'a>(log: &'a [u8]) -> LogReader<'a>
-    ensures { result ≡ readerAt log.entry start }
+    ensures { result ≡ reader_at log.entry start }
 {
     LogReader {
         log,
@@ -49,7 +49,7 @@ pub fn open<'a>(log: &'a [u8]) -> LogReader<'a>
 
 // The same log at another place: `at` is what the last line handed out, or one that the caller kept.
 pub fn moved<'a>(r: LogReader<'a>, at: Cursor) -> LogReader<'a>
-    ensures { result ≡ readerAt r.entry.log at }
+    ensures { result ≡ reader_at r.entry.log at }
 {
     LogReader {
         log: r.log,
@@ -60,7 +60,7 @@ pub fn moved<'a>(r: LogReader<'a>, at: Cursor) -> LogReader<'a>
 
 // Reads the line at the place.
 pub fn next_line<'a>(r: LogReader<'a>) -> Next
-    ensures { result ≡ next_of r.entry.log.now (cursorOf r.entry) }
+    ensures { result ≡ next_of r.entry.log.now (cursor_of r.entry) }
 {
     next_at(r.log, r.place, r.number)
 }
@@ -74,7 +74,7 @@ pub fn line<'a>(r: LogReader<'a>) -> &'a [u8]
 
 // What is held after the line at the place.
 pub fn tables<'a>(r: LogReader<'a>, held: Tables) -> Tables
-    ensures { result ≡ tablesAfter held (textAt r.entry.place r.entry.log.now) }
+    ensures { result ≡ tables_after held (text_at r.entry.place r.entry.log.now) }
 {
     tables_at(r.log, r.place, held)
 }

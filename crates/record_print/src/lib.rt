@@ -1,7 +1,7 @@
 // Records of every kind printed, as src/records/mod.rs has it.
 ghost use Rattle.put.specs.Put.{Wrote};
 ghost use Rattle.print.specs.Print.{Prints};
-ghost use Rattle.record_print.specs.Printed.{recordText, recordPiece};
+ghost use Rattle.record_print.specs.Printed.{record_text, record_piece};
 
 use print::printed::{Printed, print_part};
 use put::put_part;
@@ -10,7 +10,7 @@ use table::Table;
 
 // Prints a record. The table is that of an I or a J line; other kinds do not look at it.
 pub fn print_record(rec: Record, table: Table, line: &[u8], buf: &mut [u8]) -> Printed
-    ensures { Prints (recordText rec table line.now) buf.old buf.new result }
+    ensures { Prints (record_text rec table line.now) buf.old buf.new result }
 {
     match rec {
         Record::A(a) => a.print(line, buf),
@@ -33,7 +33,7 @@ pub fn print_record(rec: Record, table: Table, line: &[u8], buf: &mut [u8]) -> P
 // A record's text as a piece of a larger one, from a place on: bytes that are too short cut it, and a part outside the
 // line is left out. `print_record` is the printer.
 pub fn put_record(buf: &mut [u8], at: usize, rec: Record, table: Table, line: &[u8]) -> usize
-    ensures { Wrote buf.old at (recordPiece rec table line.now)
+    ensures { Wrote buf.old at (record_piece rec table line.now)
         buf.new result }
 {
     match rec {

@@ -1,10 +1,10 @@
 // The fields of a record, one form for each kind.
-ghost use Rattle.table.specs.Table.{defsOf};
+ghost use Rattle.table.specs.Table.{defs_of};
 ghost use Rattle.put.specs.Put.{Wrote};
-ghost use Rattle.log.specs.Fold.{texts};
-ghost use Rattle.record_text.specs.Record.{aShown, fixShown, bShown, taskShown, declarationShown, turnpointShown};
-ghost use Rattle.record_text.specs.Record.{dShown, eShown, fShown, gShown, hShown, kShown, lShown};
-ghost use Rattle.record_text.specs.Record.{definitionShown, tableShown, recordShown};
+ghost use Rattle.igc_log.specs.Fold.{texts};
+ghost use Rattle.record_text.specs.Record.{a_shown, fix_shown, b_shown, task_shown, declaration_shown, turnpoint_shown};
+ghost use Rattle.record_text.specs.Record.{d_shown, e_shown, f_shown, g_shown, h_shown, k_shown, l_shown};
+ghost use Rattle.record_text.specs.Record.{definition_shown, table_shown, record_shown};
 
 use a_record::ARecord;
 use b_record::BRecord;
@@ -32,7 +32,7 @@ use table::Table;
 
 // The maker's two codes, unique id, id extension.
 fn show_a(buf: &mut [u8], at: usize, a: ARecord) -> usize
-    ensures { Wrote buf.old at (aShown a) buf.new result }
+    ensures { Wrote buf.old at (a_shown a) buf.new result }
 {
     let manufacturer = a.manufacturer;
     let unique_id = a.unique_id;
@@ -45,7 +45,7 @@ fn show_a(buf: &mut [u8], at: usize, a: ARecord) -> usize
 
 // A or V, the pressure height and then the GPS height, and the rest.
 fn show_fix(buf: &mut [u8], at: usize, b: BRecord) -> usize
-    ensures { Wrote buf.old at (fixShown b) buf.new result }
+    ensures { Wrote buf.old at (fix_shown b) buf.new result }
 {
     let fix_valid = b.fix_valid;
     let pressure = b.pressure_alt;
@@ -61,7 +61,7 @@ fn show_fix(buf: &mut [u8], at: usize, b: BRecord) -> usize
 
 // Time, position, the fix, and the values of the names.
 fn show_b(buf: &mut [u8], at: usize, b: BRecord, held: Held, names: &[u8], line: &[u8]) -> usize
-    ensures { Wrote buf.old at (bShown b held names.now line.now)
+    ensures { Wrote buf.old at (b_shown b held names.now line.now)
         buf.new result }
 {
     let timestamp = b.timestamp;
@@ -83,7 +83,7 @@ fn show_b(buf: &mut [u8], at: usize, b: BRecord, held: Held, names: &[u8], line:
 
 // Time, rest, and the values of the names.
 fn show_k(buf: &mut [u8], at: usize, k: KRecord, held: Held, names: &[u8], line: &[u8]) -> usize
-    ensures { Wrote buf.old at (kShown k held names.now line.now)
+    ensures { Wrote buf.old at (k_shown k held names.now line.now)
         buf.new result }
 {
     let time = k.time;
@@ -103,7 +103,7 @@ fn show_k(buf: &mut [u8], at: usize, k: KRecord, held: Held, names: &[u8], line:
 
 // Task, count, name.
 fn show_task(buf: &mut [u8], at: usize, task: CRecordDeclaration) -> usize
-    ensures { Wrote buf.old at (taskShown task) buf.new result }
+    ensures { Wrote buf.old at (task_shown task) buf.new result }
 {
     let task_name = task.task_name;
     let at_space = show_number(buf, at, task.task_id as u64);
@@ -114,7 +114,7 @@ fn show_task(buf: &mut [u8], at: usize, task: CRecordDeclaration) -> usize
 
 // Date, time, flight date, and the task.
 fn show_declaration(buf: &mut [u8], at: usize, task: CRecordDeclaration) -> usize
-    ensures { Wrote buf.old at (declarationShown task) buf.new result }
+    ensures { Wrote buf.old at (declaration_shown task) buf.new result }
 {
     let date = task.date;
     let time = task.time;
@@ -126,7 +126,7 @@ fn show_declaration(buf: &mut [u8], at: usize, task: CRecordDeclaration) -> usiz
 }
 
 fn show_turnpoint(buf: &mut [u8], at: usize, point: CRecordTurnpoint) -> usize
-    ensures { Wrote buf.old at (turnpointShown point) buf.new result }
+    ensures { Wrote buf.old at (turnpoint_shown point) buf.new result }
 {
     let position = point.position;
     let turnpoint_name = point.turnpoint_name;
@@ -136,7 +136,7 @@ fn show_turnpoint(buf: &mut [u8], at: usize, point: CRecordTurnpoint) -> usize
 
 // The qualifier's byte, station.
 fn show_d(buf: &mut [u8], at: usize, d: DRecord) -> usize
-    ensures { Wrote buf.old at (dShown d) buf.new result }
+    ensures { Wrote buf.old at (d_shown d) buf.new result }
 {
     let qualifier = d.qualifier;
     let station_id = d.station_id;
@@ -146,7 +146,7 @@ fn show_d(buf: &mut [u8], at: usize, d: DRecord) -> usize
 
 // Time, code, text.
 fn show_e(buf: &mut [u8], at: usize, e: ERecord) -> usize
-    ensures { Wrote buf.old at (eShown e) buf.new result }
+    ensures { Wrote buf.old at (e_shown e) buf.new result }
 {
     let time = e.time;
     let mnemonic = e.mnemonic;
@@ -158,7 +158,7 @@ fn show_e(buf: &mut [u8], at: usize, e: ERecord) -> usize
 
 // Time, how many different satellites, the list.
 fn show_f(buf: &mut [u8], at: usize, f: FRecord) -> usize
-    ensures { Wrote buf.old at (fShown f) buf.new result }
+    ensures { Wrote buf.old at (f_shown f) buf.new result }
 {
     let time = f.time;
     let satellites = f.satellites;
@@ -169,7 +169,7 @@ fn show_f(buf: &mut [u8], at: usize, f: FRecord) -> usize
 }
 
 fn show_g(buf: &mut [u8], at: usize, g: GRecord) -> usize
-    ensures { Wrote buf.old at (gShown g) buf.new result }
+    ensures { Wrote buf.old at (g_shown g) buf.new result }
 {
     let data = g.data;
     show_part(buf, at, data)
@@ -177,7 +177,7 @@ fn show_g(buf: &mut [u8], at: usize, g: GRecord) -> usize
 
 // The source's byte as it is, mnemonic, name, data.
 fn show_h(buf: &mut [u8], at: usize, h: HRecord) -> usize
-    ensures { Wrote buf.old at (hShown h) buf.new result }
+    ensures { Wrote buf.old at (h_shown h) buf.new result }
 {
     let data_source = h.data_source;
     let mnemonic = h.mnemonic;
@@ -191,7 +191,7 @@ fn show_h(buf: &mut [u8], at: usize, h: HRecord) -> usize
 
 // Source, text.
 fn show_l(buf: &mut [u8], at: usize, l: LRecord) -> usize
-    ensures { Wrote buf.old at (lShown l) buf.new result }
+    ensures { Wrote buf.old at (l_shown l) buf.new result }
 {
     let source = l.source;
     let text = l.text;
@@ -201,7 +201,7 @@ fn show_l(buf: &mut [u8], at: usize, l: LRecord) -> usize
 
 // START-ENDNAME.
 fn show_definition(buf: &mut [u8], at: usize, e: Extension) -> usize
-    ensures { Wrote buf.old at (definitionShown e) buf.new result }
+    ensures { Wrote buf.old at (definition_shown e) buf.new result }
 {
     let mnemonic = e.mnemonic;
     let at_dash = show_number(buf, at, e.start_byte as u64);
@@ -212,7 +212,7 @@ fn show_definition(buf: &mut [u8], at: usize, e: Extension) -> usize
 
 // The definitions that count, one after the other.
 fn show_definitions(buf: &mut [u8], at: usize, table: Table) -> usize
-    ensures { Wrote buf.old at (texts definitionShown (defsOf table)) buf.new result }
+    ensures { Wrote buf.old at (texts definition_shown (defs_of table)) buf.new result }
 {
     let n = definition_count(table);
     let mut next = at;
@@ -227,7 +227,7 @@ fn show_definitions(buf: &mut [u8], at: usize, table: Table) -> usize
 
 // Count and definitions.
 fn show_table(buf: &mut [u8], at: usize, table: Table) -> usize
-    ensures { Wrote buf.old at (tableShown table) buf.new result }
+    ensures { Wrote buf.old at (table_shown table) buf.new result }
 {
     let next = show_number(buf, at, table.count as u64);
     show_definitions(buf, next, table)
@@ -243,7 +243,7 @@ pub fn show_record(
     names: &[u8],
     line: &[u8],
 ) -> usize
-    ensures { Wrote buf.old at (recordShown rec table held names.now line.now)
+    ensures { Wrote buf.old at (record_shown rec table held names.now line.now)
         buf.new result }
 {
     match rec {

@@ -1,9 +1,9 @@
 // Lines of every kind, as src/records/mod.rs has them.
 ghost use Rattle.std.specs.Prelude.{◌≡◌};
 ghost use Rattle.text.specs.Res.{bind, ok};
-ghost use Rattle.table.specs.Table.{readTable};
-ghost use Rattle.records.specs.Record.{Kind, whole, readKind, readLine, recordTable, recordBook};
-ghost use Rattle.records.specs.Record.{recordFix, acceptedAs, answer_of, answerFix, readingRes};
+ghost use Rattle.table.specs.Table.{read_table};
+ghost use Rattle.records.specs.Record.{Kind, whole, read_kind, read_line_of, record_table, record_book};
+ghost use Rattle.records.specs.Record.{record_fix, accepted_as, answer_of, answer_fix, reading_res};
 
 use a_record::{ARead, ARecord};
 use b_quick::{Quick, quick_fix};
@@ -22,7 +22,7 @@ use table::{Table, Verdict};
 use text::refusal::Refusal;
 
 // The definitions of an I or a J line stand beside the record, in a `Table`: an enum holds no array.
-#[derive(Drop)]
+#[derive(Clone, Copy)]
 pub enum Record {
     A(ARecord),
     B(BRecord),
@@ -40,14 +40,14 @@ pub enum Record {
     Unrecognised(Part),
 }
 
-#[derive(Drop)]
+#[derive(Clone, Copy)]
 pub enum Reading {
     Accepted(Record),
     Refused(Refusal),
 }
 
 // Whether a record is a fix, and which, in the place of the Rust's `if let Record::B(fix)`.
-#[derive(Drop)]
+#[derive(Clone, Copy)]
 pub enum MaybeFix {
     Missing,
     Fix(BRecord),
@@ -63,7 +63,7 @@ fn whole_line(line: &[u8]) -> Part
 }
 
 fn parse_a(line: &[u8]) -> Reading
-    ensures { readingRes result ≡ readKind Kind.A line.now }
+    ensures { reading_res result ≡ read_kind Kind.A line.now }
 {
     match ARecord::parse(line) {
         ARead::Ok(a) => Reading::Accepted(Record::A(a)),
@@ -73,7 +73,7 @@ fn parse_a(line: &[u8]) -> Reading
 
 // A fix of plain digits, as nearly all are, the quick way; any other line by `BRecord::parse`.
 fn parse_b(line: &[u8]) -> Reading
-    ensures { readingRes result ≡ readKind Kind.B line.now }
+    ensures { reading_res result ≡ read_kind Kind.B line.now }
 {
     match quick_fix(line) {
         Quick::Fix(fix) => Reading::Accepted(Record::B(fix)),
@@ -85,7 +85,7 @@ fn parse_b(line: &[u8]) -> Reading
 }
 
 fn parse_c(line: &[u8]) -> Reading
-    ensures { readingRes result ≡ readKind Kind.C line.now }
+    ensures { reading_res result ≡ read_kind Kind.C line.now }
 {
     if line.len() < 9 {
         return Reading::Refused(Refusal::Syntax);
@@ -103,7 +103,7 @@ fn parse_c(line: &[u8]) -> Reading
 }
 
 fn parse_d(line: &[u8]) -> Reading
-    ensures { readingRes result ≡ readKind Kind.D line.now }
+    ensures { reading_res result ≡ read_kind Kind.D line.now }
 {
     match DRecord::parse(line) {
         DRead::Ok(d) => Reading::Accepted(Record::D(d)),
@@ -112,7 +112,7 @@ fn parse_d(line: &[u8]) -> Reading
 }
 
 fn parse_e(line: &[u8]) -> Reading
-    ensures { readingRes result ≡ readKind Kind.E line.now }
+    ensures { reading_res result ≡ read_kind Kind.E line.now }
 {
     match ERecord::parse(line) {
         ERead::Ok(e) => Reading::Accepted(Record::E(e)),
@@ -121,7 +121,7 @@ fn parse_e(line: &[u8]) -> Reading
 }
 
 fn parse_f(line: &[u8]) -> Reading
-    ensures { readingRes result ≡ readKind Kind.F line.now }
+    ensures { reading_res result ≡ read_kind Kind.F line.now }
 {
     match FRecord::parse(line) {
         FRead::Ok(f) => Reading::Accepted(Record::F(f)),
@@ -130,7 +130,7 @@ fn parse_f(line: &[u8]) -> Reading
 }
 
 fn parse_g(line: &[u8]) -> Reading
-    ensures { readingRes result ≡ readKind Kind.G line.now }
+    ensures { reading_res result ≡ read_kind Kind.G line.now }
 {
     match GRecord::parse(line) {
         GRead::Ok(g) => Reading::Accepted(Record::G(g)),
@@ -139,7 +139,7 @@ fn parse_g(line: &[u8]) -> Reading
 }
 
 fn parse_h(line: &[u8]) -> Reading
-    ensures { readingRes result ≡ readKind Kind.H line.now }
+    ensures { reading_res result ≡ read_kind Kind.H line.now }
 {
     match HRecord::parse(line) {
         HRead::Ok(h) => Reading::Accepted(Record::H(h)),
@@ -149,7 +149,7 @@ fn parse_h(line: &[u8]) -> Reading
 
 // An I or a J line, of which only the verdict is kept; `Table::parse` hands the definitions over.
 fn parse_table(line: &[u8], as_read: Record) -> Reading
-    ensures { readingRes result ≡ bind (readTable line.now) (λ ds. ok as_read) }
+    ensures { reading_res result ≡ bind (read_table line.now) (λ ds. ok as_read) }
 {
     let verdict = Table::parse(line).verdict;
     match verdict {
@@ -159,7 +159,7 @@ fn parse_table(line: &[u8], as_read: Record) -> Reading
 }
 
 fn parse_k(line: &[u8]) -> Reading
-    ensures { readingRes result ≡ readKind Kind.K line.now }
+    ensures { reading_res result ≡ read_kind Kind.K line.now }
 {
     match KRecord::parse(line) {
         KRead::Ok(k) => Reading::Accepted(Record::K(k)),
@@ -168,7 +168,7 @@ fn parse_k(line: &[u8]) -> Reading
 }
 
 fn parse_l(line: &[u8]) -> Reading
-    ensures { readingRes result ≡ readKind Kind.L line.now }
+    ensures { reading_res result ≡ read_kind Kind.L line.now }
 {
     match LRecord::parse(line) {
         LRead::Ok(l) => Reading::Accepted(Record::L(l)),
@@ -179,7 +179,7 @@ fn parse_l(line: &[u8]) -> Reading
 impl Record {
     // Reads a line by its first byte.
     pub fn parse_line(line: &[u8]) -> Reading
-        ensures { readingRes result ≡ readLine line.now }
+        ensures { reading_res result ≡ read_line_of line.now }
     {
         if line.len() == 0 {
             return Reading::Refused(Refusal::Syntax);
@@ -203,7 +203,7 @@ impl Record {
 
     // Its times, dates and positions are by the book; other kinds say yes.
     pub fn by_the_book(self) -> bool
-        ensures { result ≡ recordBook self }
+        ensures { result ≡ record_book self }
     {
         match self {
             Record::A(_) => true,
@@ -225,7 +225,7 @@ impl Record {
 
     // The table of an I or a J line itself, which stands beside the record; no other kind looks at it.
     pub fn table(self, line: &[u8]) -> Table
-        ensures { result ≡ recordTable self line.now }
+        ensures { result ≡ record_table self line.now }
     {
         match self {
             Record::I => Table::parse(line).table,
@@ -247,7 +247,7 @@ impl Record {
 
     // The fix of a B line.
     pub fn fix(self) -> MaybeFix
-        ensures { result ≡ recordFix self }
+        ensures { result ≡ record_fix self }
     {
         match self {
             Record::B(fix) => MaybeFix::Fix(fix),
@@ -269,7 +269,7 @@ impl Record {
 
     // 0, or 12, which is an answer too.
     pub fn number(self) -> u8
-        ensures { result ≡ acceptedAs self }
+        ensures { result ≡ accepted_as self }
     {
         match self {
             Record::A(_) => 0,
@@ -293,7 +293,7 @@ impl Record {
 impl Reading {
     // The fix of an accepted B line: products that care for fixes alone ask here, and match over no other kind.
     pub fn fix(self) -> MaybeFix
-        ensures { result ≡ answerFix (readingRes self) }
+        ensures { result ≡ answer_fix (reading_res self) }
     {
         match self {
             Reading::Accepted(record) => record.fix(),

@@ -1,7 +1,7 @@
 -- The range of some things: seen in parts it is the same, and it is what it says.
 use Rattle.text.specs.Prelude.{◌≡◌, Bool, true, false, List, [], ◌∷◌, ◌++◌, length, pick}
 use Rattle.text.proofs.Prelude.{arith, refl, sym, ap, ◌∙◌, length-append, never}
-use Rattle.text.proofs.Prelude.{by-test}
+use Rattle.text.proofs.Prelude.{by_test}
 use Rattle.report.specs.Range.{Range, none, between, Every, Order, turned, higher, joined, range_of, Highest}
 use Rattle.report.specs.Range.{IsRange}
 use Rattle.report.specs.Laws.{OneRange}
@@ -14,51 +14,51 @@ turn o = record { one_way = λ a b h. o.one_way b a h; through = λ a b c p q. o
 
 module _ {P : Type 0} {below : P → P → Bool} (o : Order below) where
   -- what is below one is below what is above that
-  below-trans : (a b c : P) → below a b ≡ true → below b c ≡ true → below a c ≡ true
-  below-trans a b c p q = by-test (below a c) (λ e. e) (λ e. never p (o.through a c b e (o.one_way b c q)))
+  below_trans : (a b c : P) → below a b ≡ true → below b c ≡ true → below a c ≡ true
+  below_trans a b c p q = by_test (below a c) (λ e. e) (λ e. never p (o.through a c b e (o.one_way b c q)))
 
-  higher-assoc : (a b c : P) → higher below (higher below a b) c ≡ higher below a (higher below b c)
+  higher_assoc : (a b c : P) → higher below (higher below a b) c ≡ higher below a (higher below b c)
   unfolding higher pick
-  higher-assoc a b c =
-      by-test (below a b)
-      (λ ab. by-test (below b c) (λ bc. rw (ab, bc, below-trans a b c ab bc)) (λ bc. rw (ab, bc, ab)))
-      (λ ab. by-test (below b c) (λ bc. rw (ab, bc)) (λ bc. rw (ab, bc, o.through a b c ab bc, ab)))
+  higher_assoc a b c =
+      by_test (below a b)
+      (λ ab. by_test (below b c) (λ bc. rw (ab, bc, below_trans a b c ab bc)) (λ bc. rw (ab, bc, ab)))
+      (λ ab. by_test (below b c) (λ bc. rw (ab, bc)) (λ bc. rw (ab, bc, o.through a b c ab bc, ab)))
 
 -- ---- in parts
 
 module _ {P : Type 0} {below : P → P → Bool} (o : Order below) where
-  pub joined-assoc : (a b c : Range P) → joined below (joined below a b) c ≡ joined below a (joined below b c)
+  pub joined_assoc : (a b c : Range P) → joined below (joined below a b) c ≡ joined below a (joined below b c)
   unfolding joined
-  joined-assoc none b c = refl
-  joined-assoc (between h l) none c = refl
-  joined-assoc (between h l) (between h₁ l₁) none = refl
-  joined-assoc (between h l) (between h₁ l₁) (between h₂ l₂) =
-      rw (higher-assoc o h h₁ h₂, higher-assoc (turn o) l l₁ l₂)
+  joined_assoc none b c = refl
+  joined_assoc (between h l) none c = refl
+  joined_assoc (between h l) (between h₁ l₁) none = refl
+  joined_assoc (between h l) (between h₁ l₁) (between h₂ l₂) =
+      rw (higher_assoc o h h₁ h₂, higher_assoc (turn o) l l₁ l₂)
 
   -- the range of things in two parts is that of the one and of the other, as one
-  pub range-append : (ps qs : List P) → range_of below (ps ++ qs) ≡ joined below (range_of below ps) (range_of below qs)
+  pub range_append : (ps qs : List P) → range_of below (ps ++ qs) ≡ joined below (range_of below ps) (range_of below qs)
   unfolding range_of joined
-  range-append [] qs = refl
-  range-append (p ∷ ps) qs =
-      rw (range-append ps qs) (sym (joined-assoc (between p p) (range_of below ps) (range_of below qs)))
+  range_append [] qs = refl
+  range_append (p ∷ ps) qs =
+      rw (range_append ps qs) (sym (joined_assoc (between p p) (range_of below ps) (range_of below qs)))
 
 module _ {P : Type 0} (below : P → P → Bool) where
-  pub joined-none : (r : Range P) → joined below r none ≡ r
+  pub joined_none : (r : Range P) → joined below r none ≡ r
   unfolding joined
-  joined-none none = refl
-  joined-none (between h l) = refl
+  joined_none none = refl
+  joined_none (between h l) = refl
 
-  pub none-joined : (r : Range P) → joined below none r ≡ r
+  pub none_joined : (r : Range P) → joined below none r ≡ r
   unfolding joined
-  none-joined r = refl
+  none_joined r = refl
 
   pub range_none : range_of below [] ≡ none
   unfolding range_of
   range_none = refl
 
-  pub range-one : (p : P) → range_of below (p ∷ []) ≡ between p p
+  pub range_one : (p : P) → range_of below (p ∷ []) ≡ between p p
   unfolding range_of
-  range-one p = joined-none (between p p)
+  range_one p = joined_none (between p p)
 
 -- ---- what it says
 
@@ -76,11 +76,11 @@ abbrev top : {P : Type 0} → (P → P → Bool) → P → List P → P
 top below p [] = p
 top below p (q ∷ qs) = higher below p (top below q qs)
 
-range-top : {P : Type 0} (below : P → P → Bool) (p : P) (ps : List P) →
+range_top : {P : Type 0} (below : P → P → Bool) (p : P) (ps : List P) →
     range_of below (p ∷ ps) ≡ between (top below p ps) (top (turned below) p ps)
 unfolding range_of joined
-range-top below p [] = refl
-range-top below p (q ∷ qs) = ap (joined below (between p p)) (range-top below q qs)
+range_top below p [] = refl
+range_top below p (q ∷ qs) = ap (joined below (between p p)) (range_top below q qs)
 
 module _ {P : Type 0} {below : P → P → Bool} (o : Order below) where
   -- none of those is above p that has t above none of them, or below it
@@ -93,10 +93,10 @@ module _ {P : Type 0} {below : P → P → Bool} (o : Order below) where
       (e, every_map _ N h.after (λ q k. o.through p t q e k) h.most))
 
   -- one more in front: it is the highest itself, unless it is below
-  higher-highest : (p t : P) (ps : List P) → Highest below ps t → Highest below (p ∷ ps) (higher below p t)
+  higher_highest : (p t : P) (ps : List P) → Highest below ps t → Highest below (p ∷ ps) (higher below p t)
   unfolding higher pick
-  higher-highest p t ps h =
-      by-test (below p t)
+  higher_highest p t ps h =
+      by_test (below p t)
       (λ e. rw e (record {
         before = p ∷ h.before;
         after = h.after;
@@ -106,20 +106,20 @@ module _ {P : Type 0} {below : P → P → Bool} (o : Order below) where
       }))
       (λ e. rw e (record { before = []; after = ps; here = refl; first = tt; most = none_above p t ps h e }))
 
-  top-highest : (p : P) (ps : List P) → Highest below (p ∷ ps) (top below p ps)
-  top-highest p [] = record { before = []; after = []; here = refl; first = tt; most = tt }
-  top-highest p (q ∷ qs) = higher-highest p (top below q qs) (q ∷ qs) (top-highest q qs)
+  top_highest : (p : P) (ps : List P) → Highest below (p ∷ ps) (top below p ps)
+  top_highest p [] = record { before = []; after = []; here = refl; first = tt; most = tt }
+  top_highest p (q ∷ qs) = higher_highest p (top below q qs) (q ∷ qs) (top_highest q qs)
 
-range-is : {P : Type 0} {below : P → P → Bool} → Order below → (ps : List P) → IsRange below ps (range_of below ps)
+range_is : {P : Type 0} {below : P → P → Bool} → Order below → (ps : List P) → IsRange below ps (range_of below ps)
 unfolding range_of
-range-is o [] = refl
-range-is {below} o (p ∷ ps) = rw (range-top below p ps) (top-highest o p ps, top-highest (turn o) p ps)
+range_is o [] = refl
+range_is {below} o (p ∷ ps) = rw (range_top below p ps) (top_highest o p ps, top_highest (turn o) p ps)
 
 -- ---- and nothing else is
 
-pub every-at : {P : Type 0} (X : P → Type 0) (ps : List P) (q : P) (qs : List P) → Every X (ps ++ (q ∷ qs)) → X q
-every-at X [] q qs x = x.0
-every-at X (p ∷ ps) q qs x = every-at X ps q qs x.1
+pub every_at : {P : Type 0} (X : P → Type 0) (ps : List P) (q : P) (qs : List P) → Every X (ps ++ (q ∷ qs)) → X q
+every_at X [] q qs x = x.0
+every_at X (p ∷ ps) q qs x = every_at X ps q qs x.1
 
 module _ {P : Type 0} (below : P → P → Bool) where
   -- all before p are below it, and it is below none after it
@@ -132,34 +132,34 @@ module _ {P : Type 0} (below : P → P → Bool) where
   one_split [] a (x ∷ b') a' p q e s t =
       let h : p ≡ x = cc in
       let k : a ≡ b' ++ (q ∷ a') = cc in
-      never (rw (sym h) at t.0.0) (every-at (λ x. below p x ≡ false) b' q a' (rw k at s.1))
+      never (rw (sym h) at t.0.0) (every_at (λ x. below p x ≡ false) b' q a' (rw k at s.1))
   one_split (x ∷ b) a [] a' p q e s t =
       let h : q ≡ x = cc in
       let k : a' ≡ b ++ (p ∷ a) = cc in
-      never (rw (sym h) at s.0.0) (every-at (λ x. below q x ≡ false) b p a (rw k at t.1))
+      never (rw (sym h) at s.0.0) (every_at (λ x. below q x ≡ false) b p a (rw k at t.1))
   one_split (x ∷ b) a (y ∷ b') a' p q e s t =
       let k : b ++ (p ∷ a) ≡ b' ++ (q ∷ a') = cc in
       one_split b a b' a' p q k (s.0.1, s.1) (t.0.1, t.1)
 
-  one-highest : (ps : List P) (p q : P) → Highest below ps p → Highest below ps q → p ≡ q
-  one-highest ps p q h k =
+  one_highest : (ps : List P) (p q : P) → Highest below ps p → Highest below ps q → p ≡ q
+  one_highest ps p q h k =
       one_split h.before h.after k.before k.after p q (sym h.here ∙ k.here) (h.first, h.most)
       (k.first, k.most)
 
-  none-highest : (ps : List P) (p : P) → ps ≡ [] → Highest below ps p → ⊥
-  none-highest ps p e h = omega (arith, simp length-append at (ap length (sym e ∙ h.here)))
+  none_highest : (ps : List P) (p : P) → ps ≡ [] → Highest below ps p → ⊥
+  none_highest ps p e h = omega (arith, simp length-append at (ap length (sym e ∙ h.here)))
 
-same-range : {P : Type 0} (below : P → P → Bool) (ps : List P) (r q : Range P) → IsRange below ps r →
+same_range : {P : Type 0} (below : P → P → Bool) (ps : List P) (r q : Range P) → IsRange below ps r →
     IsRange below ps q → r ≡ q
-same-range below ps none none e f = refl
-same-range below ps none (between h l) e f = absurd (none-highest below ps h e f.0)
-same-range below ps (between h l) none e f = absurd (none-highest below ps h f e.0)
-same-range below ps (between h l) (between h' l') e f =
-    rw (one-highest below ps h h' e.0 f.0, one-highest (turned below) ps l l' e.1 f.1)
+same_range below ps none none e f = refl
+same_range below ps none (between h l) e f = absurd (none_highest below ps h e f.0)
+same_range below ps (between h l) none e f = absurd (none_highest below ps h f e.0)
+same_range below ps (between h l) (between h' l') e f =
+    rw (one_highest below ps h h' e.0 f.0, one_highest (turned below) ps l l' e.1 f.1)
 
 -- over any order the range of some things says what they are, and no other range does
-pub ordered-range : {P : Type 0} {below : P → P → Bool} → Order below → OneRange below
-ordered-range {below} o = record {
-  is = range-is o;
-  only = λ ps r w. same-range below ps r (range_of below ps) w (range-is o ps);
+pub ordered_range : {P : Type 0} {below : P → P → Bool} → Order below → OneRange below
+ordered_range {below} o = record {
+  is = range_is o;
+  only = λ ps r w. same_range below ps r (range_of below ps) w (range_is o ps);
 }

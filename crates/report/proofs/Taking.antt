@@ -2,17 +2,17 @@
 use Rattle.text.specs.Prelude.{ℕ, ◌+◌, ◌≤◌, ◌<◌, ◌≡◌, List, length, get_or, set, Res, largest}
 use Rattle.text.proofs.Prelude.{arith, refl, sym, first, second, yes≤, no≤, holds, fails, and}
 use native.Mathlib.Nat.{add-zero}
-use Rattle.time.specs.Time.{secondsOf}
+use Rattle.time.specs.Time.{seconds_of_lem}
 use Rattle.b_record.specs.declared.{BRecord.BRecord, FixValid.FixValid}
-use Rattle.records.specs.Record.{answered, answerFix}
+use Rattle.records.specs.Record.{answered, answer_fix}
 use Rattle.records.specs.declared.{Record.Record, MaybeFix.MaybeFix}
 use Rattle.report.specs.Range.{Range, between, joined}
-use Rattle.report.specs.Counts.{numbers, byNumber, added}
+use Rattle.report.specs.Counts.{numbers, by_number, added}
 use Rattle.report.specs.Figures.{Figures, earlier, both}
-use Rattle.report.specs.Report.{fixesIn, ofFix, marked, pressureAt, gpsAt, timeAt, belowPressure, belowGps}
-use Rattle.report.specs.Report.{one_of, room_for, takenBy, withFix}
+use Rattle.report.specs.Report.{fixes_in, of_fix_of, marked, pressure_at, gps_at, time_at, below_pressure, below_gps}
+use Rattle.report.specs.Report.{one_of, room_for, taken_by, with_fix_of}
 use Rattle.report.specs.declared.{pressure.PressurePeak.PressurePeak, gps.GpsPeak.GpsPeak}
-use Rattle.report.proofs.Ranges.{joined-none, range_none, range-one}
+use Rattle.report.proofs.Ranges.{joined_none, range_none, range_one}
 use Rattle.report.proofs.Counts.{raised}
 
 -- ---- the heights and the time of a fix
@@ -30,17 +30,17 @@ ranged f pressure gps times = record {
 }
 
 module _ (f : Figures PressurePeak GpsPeak) (p : ℕ) (b : BRecord) {s : ℕ} {times : Range ℕ}
-    (seconds : s ≡ secondsOf b.timestamp) (with-time : times ≡ joined earlier f.times (between s s)) where
+    (seconds : s ≡ seconds_of_lem b.timestamp) (with-time : times ≡ joined earlier f.times (between s s)) where
   -- marked A
-  pub valid-fix : {h : PressurePeak} {g : GpsPeak} {pressure : Range PressurePeak} {gps : Range GpsPeak} →
+  pub valid_fix : {h : PressurePeak} {g : GpsPeak} {pressure : Range PressurePeak} {gps : Range GpsPeak} →
       b.fix_valid ≡ FixValid.Valid →
       h ≡ record { place = p; height = b.pressure_alt } →
       g ≡ record { place = p; height = b.gps_alt } →
-      pressure ≡ joined belowPressure f.pressure (between h h) →
-      gps ≡ joined belowGps f.gps (between g g) →
-      ranged f pressure gps times ≡ withFix f p b
-  unfolding withFix pressureAt gpsAt timeAt marked
-  valid-fix valid is-h is-g with-pressure with-gps = rw (
+      pressure ≡ joined below_pressure f.pressure (between h h) →
+      gps ≡ joined below_gps f.gps (between g g) →
+      ranged f pressure gps times ≡ with_fix_of f p b
+  unfolding with_fix_of pressure_at gps_at time_at marked
+  valid_fix valid is-h is-g with-pressure with-gps = rw (
     with-pressure,
     with-gps,
     with-time,
@@ -48,23 +48,23 @@ module _ (f : Figures PressurePeak GpsPeak) (p : ℕ) (b : BRecord) {s : ℕ} {t
     is-h,
     is-g,
     valid,
-    range-one belowPressure,
-    range-one belowGps,
-    range-one earlier,
+    range_one below_pressure,
+    range_one below_gps,
+    range_one earlier,
   )
 
   -- marked V
-  pub warned-fix : b.fix_valid ≡ FixValid.NavWarning → ranged f f.pressure f.gps times ≡ withFix f p b
-  unfolding withFix pressureAt gpsAt timeAt marked
-  warned-fix warned = rw (
+  pub warned_fix : b.fix_valid ≡ FixValid.NavWarning → ranged f f.pressure f.gps times ≡ with_fix_of f p b
+  unfolding with_fix_of pressure_at gps_at time_at marked
+  warned_fix warned = rw (
     with-time,
     seconds,
     warned,
-    range_none belowPressure,
-    range_none belowGps,
-    joined-none belowPressure,
-    joined-none belowGps,
-    range-one earlier,
+    range_none below_pressure,
+    range_none below_gps,
+    joined_none below_pressure,
+    joined_none below_gps,
+    range_one earlier,
   )
 
 -- ---- counts
@@ -79,7 +79,7 @@ pub record Counted (f : Figures PressurePeak GpsPeak) (m : Res Record) (answers 
 pub counted : (f : Figures PressurePeak GpsPeak) (m : Res Record) {n count : ℕ} {answers : List ℕ} →
     n ≡ answered m → count ≡ get_or f.answers (answered m) 0 → answers ≡ set f.answers n (count + 1) →
     length f.answers ≡ numbers → f.lines < largest → count < largest → Counted f m answers
-unfolding one_of byNumber
+unfolding one_of by_number
 counted f m number is one_more wide lines answer = record {
   lines = lines;
   answer = rw is at answer;
@@ -101,43 +101,43 @@ counting f answers fixes = record {
 
 module _ (f : Figures PressurePeak GpsPeak) (p : ℕ) (m : Res Record) where
   -- where a count is at its largest, the figures stay
-  pub lines-full : largest ≤ f.lines → f ≡ takenBy f p m
-  unfolding takenBy room_for
-  lines-full h = second _ (fails _ (no≤ (omega arith))) refl
+  pub lines_full : largest ≤ f.lines → f ≡ taken_by f p m
+  unfolding taken_by room_for
+  lines_full h = second _ (fails _ (no≤ (omega arith))) refl
 
-  pub answer-full : {count : ℕ} → count ≡ get_or f.answers (answered m) 0 → f.lines < largest → largest ≤ count →
-      f ≡ takenBy f p m
-  unfolding takenBy room_for
-  answer-full is l h = second _ (holds (yes≤ (omega arith)) (fails _ (no≤ (omega arith)))) refl
+  pub answer_full : {count : ℕ} → count ≡ get_or f.answers (answered m) 0 → f.lines < largest → largest ≤ count →
+      f ≡ taken_by f p m
+  unfolding taken_by room_for
+  answer_full is l h = second _ (holds (yes≤ (omega arith)) (fails _ (no≤ (omega arith)))) refl
 
   module _ {answers : List ℕ} (counts : Counted f m answers) where
-    pub fixes-full : {b : BRecord} → MaybeFix.Fix b ≡ answerFix m → largest ≤ f.fixes → f ≡ takenBy f p m
-    unfolding takenBy room_for fixesIn
-    fixes-full fix h =
+    pub fixes_full : {b : BRecord} → MaybeFix.Fix b ≡ answer_fix m → largest ≤ f.fixes → f ≡ taken_by f p m
+    unfolding taken_by room_for fixes_in
+    fixes_full fix h =
         second _ (holds (yes≤ (omega arith)) (holds (yes≤ (omega arith)) (rw (sym fix) (no≤ (omega arith))))) refl
 
     -- else the reading is taken
-    taken : {g : Figures PressurePeak GpsPeak} → f.fixes + fixesIn (answerFix m) ≤ largest →
-        g ≡ both belowPressure belowGps f (one_of p m) → g ≡ takenBy f p m
-    unfolding takenBy room_for
+    taken : {g : Figures PressurePeak GpsPeak} → f.fixes + fixes_in (answer_fix m) ≤ largest →
+        g ≡ both below_pressure below_gps f (one_of p m) → g ≡ taken_by f p m
+    unfolding taken_by room_for
     taken h e = first _ (and (yes≤ (omega arith)) (and (yes≤ (omega arith)) (yes≤ h))) e
 
-    pub taken-fix : {b : BRecord} → MaybeFix.Fix b ≡ answerFix m → f.fixes < largest →
-        withFix (counting f answers (f.fixes + 1)) p b ≡ takenBy f p m
-    unfolding both one_of withFix ofFix fixesIn
-    taken-fix fix h = taken (rw (sym fix) (omega arith)) (rw (counts.one_more, sym fix))
+    pub taken_fix : {b : BRecord} → MaybeFix.Fix b ≡ answer_fix m → f.fixes < largest →
+        with_fix_of (counting f answers (f.fixes + 1)) p b ≡ taken_by f p m
+    unfolding both one_of with_fix_of of_fix_of fixes_in
+    taken_fix fix h = taken (rw (sym fix) (omega arith)) (rw (counts.one_more, sym fix))
 
-    pub taken-other : MaybeFix.Missing ≡ answerFix m → f.fixes ≤ largest →
-        counting f answers f.fixes ≡ takenBy f p m
-    unfolding both one_of ofFix fixesIn
-    taken-other fix h = taken (rw (sym fix) (omega arith)) (rw (
+    pub taken_other : MaybeFix.Missing ≡ answer_fix m → f.fixes ≤ largest →
+        counting f answers f.fixes ≡ taken_by f p m
+    unfolding both one_of of_fix_of fixes_in
+    taken_other fix h = taken (rw (sym fix) (omega arith)) (rw (
       counts.one_more,
       sym fix,
       add-zero,
-      range_none belowPressure,
-      range_none belowGps,
+      range_none below_pressure,
+      range_none below_gps,
       range_none earlier,
-      joined-none belowPressure,
-      joined-none belowGps,
-      joined-none earlier,
+      joined_none below_pressure,
+      joined_none below_gps,
+      joined_none earlier,
     ))

@@ -11,8 +11,8 @@ from zero i f = []
 from (suc k) i f = f i ∷ from k (i + 1) f
 
 -- f of each answer number.
-unfoldable pub byNumber : (ℕ → ℕ) → List ℕ
-byNumber f = from numbers 0 f
+unfoldable pub by_number : (ℕ → ℕ) → List ℕ
+by_number f = from numbers 0 f
 
 -- The sum of some counts.
 unfoldable pub summed : List ℕ → ℕ
@@ -26,6 +26,6 @@ added (m ∷ ms) [] = m ∷ ms
 added (m ∷ ms) (n ∷ ns) = (m + n) ∷ added ms ns
 
 -- One of some counts is at its largest.
-unfoldable pub oneFull : List ℕ → Bool
-oneFull [] = false
-oneFull (n ∷ ns) = (largest ≤? n) ∨? oneFull ns
+unfoldable pub one_full_of : List ℕ → Bool
+one_full_of [] = false
+one_full_of (n ∷ ns) = (largest ≤? n) ∨? one_full_of ns

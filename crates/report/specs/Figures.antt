@@ -1,7 +1,7 @@
 -- The figures of a report. P and G, pressure heights and GPS heights with their places, are types apart.
 use Rattle.text.specs.Prelude.{ℕ, ◌+◌, Bool, List, ◌≤?◌}
 use Rattle.report.specs.Range.{Range, none, joined}
-use Rattle.report.specs.Counts.{byNumber, added}
+use Rattle.report.specs.Counts.{by_number, added}
 
 pub record Figures (P G : Type 0) : Type 0 where
   -- Lines.
@@ -22,7 +22,7 @@ earlier a b = a + 1 ≤? b
 
 -- The figures of nothing.
 unfoldable pub empty : {P G : Type 0} → Figures P G
-empty = record { lines = 0; answers = byNumber (λ n. 0); fixes = 0; pressure = none; gps = none; times = none }
+empty = record { lines = 0; answers = by_number (λ n. 0); fixes = 0; pressure = none; gps = none; times = none }
 
 -- The figures of what was read first and of what was read later, as one.
 unfoldable pub both : {P G : Type 0} → (P → P → Bool) → (G → G → Bool) → Figures P G → Figures P G → Figures P G

@@ -1,18 +1,18 @@
 // GPS heights with their places. No place that wants a pressure height takes one.
 ghost use Rattle.std.specs.Prelude.{◌≡◌};
 ghost use Rattle.report.specs.Range.{between, higher, joined, turned};
-ghost use Rattle.report.specs.Report.{belowGps, gpsIn};
+ghost use Rattle.report.specs.Report.{below_gps, gps_in};
 
 use b_record::{BRecord, GpsAlt};
 
 // A height, and the byte offset of the first fix that reached it.
-#[derive(Drop)]
+#[derive(Clone, Copy)]
 pub struct GpsPeak {
     pub place: u64,
     pub height: GpsAlt,
 }
 
-#[derive(Drop)]
+#[derive(Clone, Copy)]
 pub enum GpsRange {
     Missing,
     Between { high: GpsPeak, low: GpsPeak },
@@ -29,14 +29,14 @@ impl GpsPeak {
 
     // By height alone.
     fn below(self, other: GpsPeak) -> bool
-        ensures { result ≡ belowGps self other }
+        ensures { result ≡ below_gps self other }
     {
         self.height.0 < other.height.0
     }
 
     // The higher of two, of equals the first.
     fn higher(self, later: GpsPeak) -> GpsPeak
-        ensures { result ≡ higher belowGps self later }
+        ensures { result ≡ higher below_gps self later }
     {
         if self.below(later) {
             return later;
@@ -46,7 +46,7 @@ impl GpsPeak {
 
     // The lower of two, of equals the first.
     fn lower(self, later: GpsPeak) -> GpsPeak
-        ensures { result ≡ higher (turned belowGps) self later }
+        ensures { result ≡ higher (turned below_gps) self later }
     {
         if later.below(self) {
             return later;
@@ -58,7 +58,7 @@ impl GpsPeak {
 impl GpsRange {
     // Of one height more, seen after the others.
     pub(crate) fn after(self, peak: GpsPeak) -> GpsRange
-        ensures { gpsIn result ≡ joined belowGps (gpsIn self) (between peak peak) }
+        ensures { gps_in result ≡ joined below_gps (gps_in self) (between peak peak) }
     {
         match self {
             GpsRange::Missing => GpsRange::Between {

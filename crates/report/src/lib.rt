@@ -4,10 +4,10 @@ pub mod pressure;
 pub mod times;
 
 ghost use Rattle.std.specs.Prelude.{◌≡◌, get_or, set};
-ghost use Rattle.records.specs.Record.{readingRes};
-ghost use Rattle.report.specs.Counts.{oneFull};
+ghost use Rattle.records.specs.Record.{reading_res};
+ghost use Rattle.report.specs.Counts.{one_full_of};
 ghost use Rattle.report.specs.Figures.{empty};
-ghost use Rattle.report.specs.Report.{takenBy, withFix, isFull, figuresIn};
+ghost use Rattle.report.specs.Report.{taken_by, with_fix_of, is_full_of, figures_in};
 
 use crate::gps::{GpsPeak, GpsRange};
 use crate::pressure::{PressurePeak, PressureRange};
@@ -15,7 +15,7 @@ use crate::times::TimeRange;
 use b_record::{BRecord, FixValid};
 use records::{MaybeFix, Reading};
 
-#[derive(Drop)]
+#[derive(Clone, Copy)]
 pub struct Report {
     pub answers: [u64; 13],
     pub lines: u64,
@@ -49,7 +49,7 @@ fn with_count(answers: [u64; 13], number: usize, count: u64) -> [u64; 13]
 
 // One of the counts is at its largest.
 fn one_full(answers: [u64; 13]) -> bool
-    ensures { result ≡ oneFull answers }
+    ensures { result ≡ one_full_of answers }
 {
     let mut i: usize = 0;
     while i < 13 {
@@ -64,7 +64,7 @@ fn one_full(answers: [u64; 13]) -> bool
 impl Report {
     // Over no readings.
     pub fn new() -> Report
-        ensures { figuresIn result ≡ empty }
+        ensures { figures_in result ≡ empty }
     {
         Report {
             answers: [0u64; 13],
@@ -78,7 +78,7 @@ impl Report {
 
     // A count is at its largest: of lines, of fixes, or of an answer.
     pub fn is_full(self) -> bool
-        ensures { result ≡ isFull (figuresIn self) }
+        ensures { result ≡ is_full_of (figures_in self) }
     {
         let answers = self.answers;
         if 0xffff_ffff_ffff_ffff <= self.lines {
@@ -92,7 +92,7 @@ impl Report {
 
     // With the heights and the time of a fix more; one marked V shows no height.
     fn with_fix(self, place: u64, fix: BRecord) -> Report
-        ensures { figuresIn result ≡ withFix (figuresIn self) place fix }
+        ensures { figures_in result ≡ with_fix_of (figures_in self) place fix }
     {
         let answers = self.answers;
         let by_pressure = self.pressure;
@@ -125,7 +125,7 @@ impl Report {
 
     // Over one reading more, of the line at a place. Where a count is at its largest, the figures stay.
     pub fn after(self, place: u64, reading: Reading) -> Report
-        ensures { figuresIn result ≡ takenBy (figuresIn self) place (readingRes reading) }
+        ensures { figures_in result ≡ taken_by (figures_in self) place (reading_res reading) }
     {
         let pressure = self.pressure;
         let gps = self.gps;

@@ -1,18 +1,18 @@
 // Pressure heights with their places. No place that wants a GPS height takes one.
 ghost use Rattle.std.specs.Prelude.{◌≡◌};
 ghost use Rattle.report.specs.Range.{between, higher, joined, turned};
-ghost use Rattle.report.specs.Report.{belowPressure, pressureIn};
+ghost use Rattle.report.specs.Report.{below_pressure, pressure_in};
 
 use b_record::{BRecord, PressureAlt};
 
 // A height, and the byte offset of the first fix that reached it.
-#[derive(Drop)]
+#[derive(Clone, Copy)]
 pub struct PressurePeak {
     pub place: u64,
     pub height: PressureAlt,
 }
 
-#[derive(Drop)]
+#[derive(Clone, Copy)]
 pub enum PressureRange {
     Missing,
     Between {
@@ -32,14 +32,14 @@ impl PressurePeak {
 
     // By height alone.
     fn below(self, other: PressurePeak) -> bool
-        ensures { result ≡ belowPressure self other }
+        ensures { result ≡ below_pressure self other }
     {
         self.height.0 < other.height.0
     }
 
     // The higher of two, of equals the first.
     fn higher(self, later: PressurePeak) -> PressurePeak
-        ensures { result ≡ higher belowPressure self later }
+        ensures { result ≡ higher below_pressure self later }
     {
         if self.below(later) {
             return later;
@@ -49,7 +49,7 @@ impl PressurePeak {
 
     // The lower of two, of equals the first.
     fn lower(self, later: PressurePeak) -> PressurePeak
-        ensures { result ≡ higher (turned belowPressure) self later }
+        ensures { result ≡ higher (turned below_pressure) self later }
     {
         if later.below(self) {
             return later;
@@ -61,7 +61,7 @@ impl PressurePeak {
 impl PressureRange {
     // Of one height more, seen after the others.
     pub(crate) fn after(self, peak: PressurePeak) -> PressureRange
-        ensures { pressureIn result ≡ joined belowPressure (pressureIn self) (between peak peak) }
+        ensures { pressure_in result ≡ joined below_pressure (pressure_in self) (between peak peak) }
     {
         match self {
             PressureRange::Missing => PressureRange::Between {

@@ -2,9 +2,9 @@
 ghost use Rattle.std.specs.Prelude.{◌≡◌};
 ghost use Rattle.report.specs.Range.{between, higher, joined, turned};
 ghost use Rattle.report.specs.Figures.{earlier};
-ghost use Rattle.report.specs.Report.{timesIn};
+ghost use Rattle.report.specs.Report.{times_in};
 
-#[derive(Drop)]
+#[derive(Clone, Copy)]
 pub enum TimeRange {
     Missing,
     Between { latest: u32, earliest: u32 },
@@ -31,7 +31,7 @@ fn earlier_of(a: u32, b: u32) -> u32
 impl TimeRange {
     // What was seen first, and what was seen later, as one.
     pub fn join(self, later: TimeRange) -> TimeRange
-        ensures { timesIn result ≡ joined earlier (timesIn self) (timesIn later) }
+        ensures { times_in result ≡ joined earlier (times_in self) (times_in later) }
     {
         match self {
             TimeRange::Missing => later,
@@ -50,7 +50,7 @@ impl TimeRange {
 
     // Of one time more.
     pub(crate) fn after(self, seconds: u32) -> TimeRange
-        ensures { timesIn result ≡ joined earlier (timesIn self) (between seconds seconds) }
+        ensures { times_in result ≡ joined earlier (times_in self) (between seconds seconds) }
     {
         self.join(TimeRange::Between {
             latest: seconds,

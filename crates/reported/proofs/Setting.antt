@@ -1,65 +1,65 @@
 -- An I or a J line, read once for its answer and for its table.
 use Rattle.text.specs.Prelude.{ℕ, code, ◌≡◌, Bool, true, false, List, Res, ok, no, bind, pick, ◌=?◌, ◌∨?◌, byte, begins}
-use Rattle.text.proofs.Prelude.{refl, ap, ◌∙◌, pass, is=, both, by-test}
+use Rattle.text.proofs.Prelude.{refl, ap, ◌∙◌, pass, is=, both, by_test}
 use Rattle.extension.specs.declared.Extension.{Extension}
-use Rattle.table.specs.Table.{readTable, tableRead}
+use Rattle.table.specs.Table.{read_table, table_read}
 use Rattle.table.specs.declared.TableRead.{TableRead}
-use Rattle.records.specs.Record.{kind_of, readKind, readLine, acceptedAs, answered, recordFix, answerFix}
+use Rattle.records.specs.Record.{kind_of, read_kind, read_line_of, accepted_as, answered, record_fix, answer_fix}
 use Rattle.records.specs.declared.Record.{Record}
-use Rattle.held.specs.Held.{spoiled, setBy}
+use Rattle.held.specs.Held.{spoiled, set_by_of}
 use Rattle.held.specs.declared.Held.{Held}
-use Rattle.reported.specs.Glance.{plainGlance, glanceAt, glanceOf, tableNumber}
-use Rattle.reported.specs.End.{setsTable, slot_of}
+use Rattle.reported.specs.Glance.{plain_glance, glance_at, glance_of, table_number}
+use Rattle.reported.specs.End.{sets_table_of, slot_of}
 
 -- the verdict's number is the answer's
-i-number : (m : Res (List Extension)) →
-    plainGlance (tableNumber (tableRead m).verdict) ≡ glanceOf (bind m (λ ds. ok Record.I))
-unfolding tableRead tableNumber glanceOf glanceAt answered answerFix acceptedAs recordFix bind
-i-number (ok ds) = refl
-i-number (no n) = refl
+i_number : (m : Res (List Extension)) →
+    plain_glance (table_number (table_read m).verdict) ≡ glance_of (bind m (λ ds. ok Record.I))
+unfolding table_read table_number glance_of glance_at answered answer_fix accepted_as record_fix bind
+i_number (ok ds) = refl
+i_number (no n) = refl
 
-j-number : (m : Res (List Extension)) →
-    plainGlance (tableNumber (tableRead m).verdict) ≡ glanceOf (bind m (λ ds. ok Record.J))
-unfolding tableRead tableNumber glanceOf glanceAt answered answerFix acceptedAs recordFix bind
-j-number (ok ds) = refl
-j-number (no n) = refl
+j_number : (m : Res (List Extension)) →
+    plain_glance (table_number (table_read m).verdict) ≡ glance_of (bind m (λ ds. ok Record.J))
+unfolding table_read table_number glance_of glance_at answered answer_fix accepted_as record_fix bind
+j_number (ok ds) = refl
+j_number (no n) = refl
 
 -- what is held of a table with its verdict
-kept : (m : Res (List Extension)) → let t = tableRead m in
-    ◌≡◌ {A = Held} (record { table = t.table; slot = slot_of t.verdict }) (setBy m)
-unfolding tableRead setBy spoiled slot_of
+kept : (m : Res (List Extension)) → let t = table_read m in
+    ◌≡◌ {A = Held} (record { table = t.table; slot = slot_of t.verdict }) (set_by_of m)
+unfolding table_read set_by_of spoiled slot_of
 kept (ok ds) = refl
 kept (no n) = refl
 
 -- of two letters it is the second where it is not the first
-other-letter : {a b : Bool} → (a ∨? b) ≡ true → a ≡ false → b ≡ true
+other_letter : {a b : Bool} → (a ∨? b) ≡ true → a ≡ false → b ≡ true
 unfolding ◌∨?◌ pick
-other-letter h n = rw n at h
+other_letter h n = rw n at h
 
 module _ (s : List ℕ) where
   -- a line that begins with I is read as one
-  i-read : begins (code "I") s ≡ true → bind (readTable s) (λ ds. ok Record.I) ≡ readLine s
-  unfolding begins readLine kind_of readKind pick ◌=?◌
-  i-read h = let b : byte 0 s ≡ code "I" = is= (both h).1 in pass _ (both h).0 (rw b)
+  i_read : begins (code "I") s ≡ true → bind (read_table s) (λ ds. ok Record.I) ≡ read_line_of s
+  unfolding begins read_line_of kind_of read_kind pick ◌=?◌
+  i_read h = let b : byte 0 s ≡ code "I" = is= (both h).1 in pass _ (both h).0 (rw b)
 
   -- and so is one that begins with J
-  j-read : begins (code "J") s ≡ true → bind (readTable s) (λ ds. ok Record.J) ≡ readLine s
-  unfolding begins readLine kind_of readKind pick ◌=?◌
-  j-read h = let b : byte 0 s ≡ code "J" = is= (both h).1 in pass _ (both h).0 (rw b)
+  j_read : begins (code "J") s ≡ true → bind (read_table s) (λ ds. ok Record.J) ≡ read_line_of s
+  unfolding begins read_line_of kind_of read_kind pick ◌=?◌
+  j_read h = let b : byte 0 s ≡ code "J" = is= (both h).1 in pass _ (both h).0 (rw b)
 
   -- a line that sets a table and is no I line is a J line
-  pub is-j : setsTable s ≡ true → begins (code "I") s ≡ false → begins (code "J") s ≡ true
-  unfolding setsTable
-  is-j h n = other-letter h n
+  pub is_j : sets_table_of s ≡ true → begins (code "I") s ≡ false → begins (code "J") s ≡ true
+  unfolding sets_table_of
+  is_j h n = other_letter h n
 
-  module _ {r : TableRead} (read : r ≡ tableRead (readTable s)) where
+  module _ {r : TableRead} (read : r ≡ table_read (read_table s)) where
     -- the glance at such a line, by its verdict
-    pub table-seen : setsTable s ≡ true → plainGlance (tableNumber r.verdict) ≡ glanceOf (readLine s)
-    table-seen h =
-        by-test (begins (code "I") s)
-        (λ i. rw read (i-number (readTable s) ∙ ap glanceOf (i-read i)))
-        (λ n. rw read (j-number (readTable s) ∙ ap glanceOf (j-read (is-j h n))))
+    pub table_seen : sets_table_of s ≡ true → plain_glance (table_number r.verdict) ≡ glance_of (read_line_of s)
+    table_seen h =
+        by_test (begins (code "I") s)
+        (λ i. rw read (i_number (read_table s) ∙ ap glance_of (i_read i)))
+        (λ n. rw read (j_number (read_table s) ∙ ap glance_of (j_read (is_j h n))))
 
     -- and what it leaves of its letter
-    pub table_kept : ◌≡◌ {A = Held} (record { table = r.table; slot = slot_of r.verdict }) (setBy (readTable s))
-    table_kept = rw read (kept (readTable s))
+    pub table_kept : ◌≡◌ {A = Held} (record { table = r.table; slot = slot_of r.verdict }) (set_by_of (read_table s))
+    table_kept = rw read (kept (read_table s))

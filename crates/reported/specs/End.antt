@@ -2,19 +2,19 @@
 use Rattle.text.specs.Prelude.{ℕ, code, Bool, List, ◌∨?◌, begins}
 use Rattle.table.specs.declared.Verdict.{Verdict}
 use Rattle.held.specs.declared.{Slot.Slot, tables.Tables.Tables}
-use Rattle.report.specs.Report.{reportMade}
+use Rattle.report.specs.Report.{report_made}
 use Rattle.walk.specs.declared.Walk.{Walk}
-use Rattle.reported.specs.Flat.{flatIn}
+use Rattle.reported.specs.Flat.{flat_in}
 use Rattle.reported.specs.declared.flat.Flat.{Flat}
 
 -- The walk at a place and a line number, with these tables and the report of these figures.
-unfoldable pub walkFrom : Tables → List ℕ → Flat → ℕ → ℕ → Walk
-walkFrom held answers f place number =
-    record { held = held; report = reportMade (flatIn answers f); at = record { place = place; number = number } }
+unfoldable pub walk_from_of : Tables → List ℕ → Flat → ℕ → ℕ → Walk
+walk_from_of held answers f place number =
+    record { held = held; report = report_made (flat_in answers f); at = record { place = place; number = number } }
 
 -- The line begins with I or J.
-unfoldable pub setsTable : List ℕ → Bool
-setsTable s = begins (code "I") s ∨? begins (code "J") s
+unfoldable pub sets_table_of : List ℕ → Bool
+sets_table_of s = begins (code "I") s ∨? begins (code "J") s
 
 -- What an I or a J line with that verdict leaves of its letter.
 unfoldable pub slot_of : Verdict → Slot

@@ -1,20 +1,20 @@
 -- What a report wants of the answer to a line.
 use Rattle.text.specs.Prelude.{ℕ, Bool, true, false, pos, Res, number_of}
-use Rattle.time.specs.Time.{secondsOf}
+use Rattle.time.specs.Time.{seconds_of_lem}
 use Rattle.table.specs.declared.Verdict.{Verdict}
 use Rattle.b_record.specs.declared.{BRecord.BRecord, FixValid.FixValid}
-use Rattle.records.specs.Record.{answered, answerFix}
+use Rattle.records.specs.Record.{answered, answer_fix}
 use Rattle.records.specs.declared.{Record.Record, MaybeFix.MaybeFix}
 use Rattle.reported.specs.declared.glance.Glance.{Glance}
 
 -- A fix is marked A.
-unfoldable pub isMarked : FixValid → Bool
-isMarked FixValid.Valid = true
-isMarked FixValid.NavWarning = false
+unfoldable pub is_marked_of : FixValid → Bool
+is_marked_of FixValid.Valid = true
+is_marked_of FixValid.NavWarning = false
 
 -- Of a line with that answer number that is no fix: nothing else.
-unfoldable pub plainGlance : ℕ → Glance
-plainGlance n = record {
+unfoldable pub plain_glance : ℕ → Glance
+plain_glance n = record {
   seconds = 0;
   pressure = record { 0 = pos 0 };
   gps = record { 0 = pos 0 };
@@ -24,26 +24,26 @@ plainGlance n = record {
 }
 
 -- Of a fix: its time, its heights, and whether they count.
-unfoldable pub fixGlance : ℕ → BRecord → Glance
-fixGlance n b = record {
-  seconds = secondsOf b.timestamp;
+unfoldable pub fix_glance : ℕ → BRecord → Glance
+fix_glance n b = record {
+  seconds = seconds_of_lem b.timestamp;
   pressure = b.pressure_alt;
   gps = b.gps_alt;
   number = n;
   fix = true;
-  marked = isMarked b.fix_valid;
+  marked = is_marked_of b.fix_valid;
 }
 
 -- Of a line with that answer number, by its fix.
-unfoldable pub glanceAt : ℕ → MaybeFix → Glance
-glanceAt n MaybeFix.Missing = plainGlance n
-glanceAt n (MaybeFix.Fix b) = fixGlance n b
+unfoldable pub glance_at : ℕ → MaybeFix → Glance
+glance_at n MaybeFix.Missing = plain_glance n
+glance_at n (MaybeFix.Fix b) = fix_glance n b
 
 -- Of an answer.
-unfoldable pub glanceOf : Res Record → Glance
-glanceOf m = glanceAt (answered m) (answerFix m)
+unfoldable pub glance_of : Res Record → Glance
+glance_of m = glance_at (answered m) (answer_fix m)
 
 -- The paper's number of an I or a J line with that verdict.
-unfoldable pub tableNumber : Verdict → ℕ
-tableNumber Verdict.Accepted = 0
-tableNumber (Verdict.Refused n) = number_of n
+unfoldable pub table_number : Verdict → ℕ
+table_number Verdict.Accepted = 0
+table_number (Verdict.Refused n) = number_of n

@@ -1,24 +1,24 @@
 // A walk to its end: the steps of `Walk::step` as one loop, which touches the tables on I and J lines alone, reads such
 // a line once for its answer and its table, and adds to the report in place.
 ghost use Rattle.std.specs.Prelude.{◌≡◌, true};
-ghost use Rattle.table.specs.Table.{readTable, tableRead};
-ghost use Rattle.held.specs.Tables.{tablesAfter};
-ghost use Rattle.walk.specs.Readings.{atEnd};
-ghost use Rattle.reported.specs.End.{walkFrom, setsTable, slot_of};
+ghost use Rattle.table.specs.Table.{read_table, table_read};
+ghost use Rattle.held.specs.Tables.{tables_after};
+ghost use Rattle.walk.specs.Readings.{at_end_of};
+ghost use Rattle.reported.specs.End.{walk_from_of, sets_table_of, slot_of};
 
 use crate::flat::Flat;
 use crate::glance::{look, of_table};
 use cursor::Cursor;
 use held::tables::Tables;
 use held::{Held, Slot};
-use log::cut_at;
+use igc_log::cut_at;
 use table::{Table, TableRead, Verdict};
 use text::line::begins;
 use walk::Walk;
 
 // The walk that stands there.
 fn walk_from(held: Tables, answers: [u64; 13], figures: Flat, place: usize, number: u64) -> Walk
-    ensures { result ≡ walkFrom held answers figures place number }
+    ensures { result ≡ walk_from_of held answers figures place number }
 {
     let report = figures.report(answers);
     let at = Cursor { place, number };
@@ -27,7 +27,7 @@ fn walk_from(held: Tables, answers: [u64; 13], figures: Flat, place: usize, numb
 
 // The line begins with I or J.
 fn sets_table(line: &[u8]) -> bool
-    ensures { result ≡ setsTable line.now }
+    ensures { result ≡ sets_table_of line.now }
 {
     if begins(b'I', line) {
         return true;
@@ -47,8 +47,8 @@ fn slot_of(verdict: Verdict) -> Slot
 
 // What is held after an I or a J line that was read so.
 fn with_table(before: Tables, line: &[u8], read: TableRead) -> Tables
-    requires { (setsTable line.now ≡ true) × (read ≡ tableRead (readTable line.now)) }
-    ensures { result ≡ tablesAfter before line.now }
+    requires { (sets_table_of line.now ≡ true) × (read ≡ table_read (read_table line.now)) }
+    ensures { result ≡ tables_after before line.now }
 {
     let table = read.table;
     let verdict = read.verdict;
@@ -65,7 +65,7 @@ fn with_table(before: Tables, line: &[u8], read: TableRead) -> Tables
 
 // Steps until the walk is done.
 pub fn walk_to_end(walk: Walk, log: &[u8]) -> Walk
-    ensures { result ≡ atEnd log.now walk }
+    ensures { result ≡ at_end_of log.now walk }
 {
     let before = walk.report;
     let mut held = walk.held;

@@ -1,11 +1,11 @@
 // What keeping the two ends of a range comes to. `seen` is 0 before the first was seen.
 ghost use Rattle.std.specs.Prelude.{◌≡◌};
 ghost use Rattle.text.specs.Res.{pick};
-ghost use Rattle.reported.specs.Flat.{newEnd};
+ghost use Rattle.reported.specs.Flat.{new_end_of};
 
 // What is seen first is an end, and later what is beyond the one so far.
 pub(crate) fn new_end(seen: u64, beyond: bool) -> bool
-    ensures { result ≡ newEnd seen beyond }
+    ensures { result ≡ new_end_of seen beyond }
 {
     if seen == 0 {
         return true;

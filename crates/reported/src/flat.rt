@@ -3,8 +3,8 @@
 ghost use Rattle.std.specs.Prelude.{◌≡◌, ℕ, ◌+◌, ◌≤◌, ◌<◌, List};
 ghost use Rattle.text.specs.Word.{largest};
 ghost use Rattle.text.specs.Res.{pick};
-ghost use Rattle.report.specs.Report.{figuresIn};
-ghost use Rattle.reported.specs.Flat.{flatIn, roomBy, fullBy, oneMore, glanced};
+ghost use Rattle.report.specs.Report.{figures_in};
+ghost use Rattle.reported.specs.Flat.{flat_in, room_by, full_by, one_more, glanced};
 
 use crate::glance::Glance;
 use crate::gps::GpsEnds;
@@ -12,7 +12,7 @@ use crate::pressure::PressureEnds;
 use crate::times::TimeEnds;
 use report::Report;
 
-#[derive(Drop)]
+#[derive(Clone, Copy)]
 pub(crate) struct Flat {
     pressure: PressureEnds,
     gps: GpsEnds,
@@ -34,7 +34,7 @@ fn one_if(fix: bool) -> u64
 impl Flat {
     // The figures of a report.
     pub(crate) fn of(report: Report) -> Flat
-        ensures { flatIn report.answers result ≡ figuresIn report }
+        ensures { flat_in report.answers result ≡ figures_in report }
     {
         let pressure = report.pressure;
         let gps = report.gps;
@@ -50,7 +50,7 @@ impl Flat {
 
     // The report of these figures, with its counts by answer number.
     pub(crate) fn report(self, answers: [u64; 13]) -> Report
-        ensures { figuresIn result ≡ flatIn answers self }
+        ensures { figures_in result ≡ flat_in answers self }
     {
         let pressure = self.pressure;
         let gps = self.gps;
@@ -67,7 +67,7 @@ impl Flat {
 
     // No count that a line raises is at its largest; `count` is that of its answer.
     pub(crate) fn has_room(self, count: u64, seen: Glance) -> bool
-        ensures { result ≡ roomBy self.lines count self.fixes seen.fix }
+        ensures { result ≡ room_by self.lines count self.fixes seen.fix }
     {
         if 0xffff_ffff_ffff_ffff <= self.lines {
             return false;
@@ -83,7 +83,7 @@ impl Flat {
 
     // A count that a line raised is at its largest; `count` is that of its answer.
     pub(crate) fn is_full(self, count: u64) -> bool
-        ensures { result ≡ fullBy self.lines self.fixes count }
+        ensures { result ≡ full_by self.lines self.fixes count }
     {
         if 0xffff_ffff_ffff_ffff <= self.lines {
             return true;
@@ -98,7 +98,7 @@ impl Flat {
     pub(crate) fn after(self, place: u64, seen: Glance) -> Flat
         requires { (self.lines < largest) × (self.fixes + pick seen.fix 1 0 ≤ largest) }
         ensures { (answers : List ℕ) →
-            flatIn (oneMore answers seen.number) result ≡ glanced (flatIn answers self) place seen }
+            flat_in (one_more answers seen.number) result ≡ glanced (flat_in answers self) place seen }
     {
         let pressure = self.pressure;
         let gps = self.gps;

@@ -2,9 +2,9 @@
 // are, are read with no record around the fix.
 ghost use Rattle.std.specs.Prelude.{◌≡◌};
 ghost use Rattle.text.specs.Res.{bind, ok};
-ghost use Rattle.b_record.specs.BRecord.{readB};
-ghost use Rattle.records.specs.Record.{readLine};
-ghost use Rattle.reported.specs.Glance.{isMarked, plainGlance, fixGlance, glanceOf, tableNumber};
+ghost use Rattle.b_record.specs.BRecord.{read_b};
+ghost use Rattle.records.specs.Record.{read_line_of};
+ghost use Rattle.reported.specs.Glance.{is_marked_of, plain_glance, fix_glance, glance_of, table_number};
 
 use b_quick::{Quick, quick_fix};
 use b_record::{BRead, BRecord, FixValid, GpsAlt, PressureAlt};
@@ -12,7 +12,7 @@ use records::Record;
 use table::Verdict;
 use text::line::begins;
 
-#[derive(Drop)]
+#[derive(Clone, Copy)]
 pub(crate) struct Glance {
     pub(crate) seconds: u32,
     pub(crate) pressure: PressureAlt,
@@ -23,7 +23,7 @@ pub(crate) struct Glance {
 }
 
 fn is_marked(valid: FixValid) -> bool
-    ensures { result ≡ isMarked valid }
+    ensures { result ≡ is_marked_of valid }
 {
     match valid {
         FixValid::Valid => true,
@@ -33,7 +33,7 @@ fn is_marked(valid: FixValid) -> bool
 
 // Of a line that is no fix.
 fn of_other(number: u8) -> Glance
-    ensures { result ≡ plainGlance number }
+    ensures { result ≡ plain_glance number }
 {
     Glance {
         seconds: 0,
@@ -47,7 +47,7 @@ fn of_other(number: u8) -> Glance
 
 // Of an accepted B line.
 fn of_fix(fix: BRecord) -> Glance
-    ensures { result ≡ fixGlance 0 fix }
+    ensures { result ≡ fix_glance 0 fix }
 {
     let time = fix.timestamp;
     let valid = fix.fix_valid;
@@ -67,7 +67,7 @@ fn of_fix(fix: BRecord) -> Glance
 
 // Of a line that begins with B: a fix of plain digits, as nearly all are, the quick way.
 fn of_b(line: &[u8]) -> Glance
-    ensures { result ≡ glanceOf (bind (readB line.now) (λ b. ok (Record.B b))) }
+    ensures { result ≡ glance_of (bind (read_b line.now) (λ b. ok (Record.B b))) }
 {
     match quick_fix(line) {
         Quick::Fix(fix) => of_fix(fix),
@@ -80,7 +80,7 @@ fn of_b(line: &[u8]) -> Glance
 
 // Of an I or a J line with that verdict.
 pub(crate) fn of_table(verdict: Verdict) -> Glance
-    ensures { result ≡ plainGlance (tableNumber verdict) }
+    ensures { result ≡ plain_glance (table_number verdict) }
 {
     match verdict {
         Verdict::Accepted => of_other(0),
@@ -90,7 +90,7 @@ pub(crate) fn of_table(verdict: Verdict) -> Glance
 
 // Of any line: none but a B line is a fix.
 pub(crate) fn look(line: &[u8]) -> Glance
-    ensures { result ≡ glanceOf (readLine line.now) }
+    ensures { result ≡ glance_of (read_line_of line.now) }
 {
     if begins(b'B', line) {
         return of_b(line);

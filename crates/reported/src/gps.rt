@@ -1,14 +1,14 @@
 // The highest and the lowest GPS height as numbers with no gap between them: a loop carries these, not a range.
 ghost use Rattle.std.specs.Prelude.{◌≡◌};
 ghost use Rattle.text.specs.Res.{pick};
-ghost use Rattle.report.specs.Report.{gpsIn};
-ghost use Rattle.reported.specs.Flat.{gpsBetween, withGps};
+ghost use Rattle.report.specs.Report.{gps_in};
+ghost use Rattle.reported.specs.Flat.{gps_between, with_gps};
 
 use crate::ends::{new_end, place_of};
 use b_record::GpsAlt;
 use report::gps::{GpsPeak, GpsRange};
 
-#[derive(Drop)]
+#[derive(Clone, Copy)]
 pub(crate) struct GpsEnds {
     high_place: u64,
     low_place: u64,
@@ -30,7 +30,7 @@ fn height_of(new: bool, height: GpsAlt, before: GpsAlt) -> GpsAlt
 impl GpsEnds {
     // The ends of a range.
     pub(crate) fn of(range: GpsRange) -> GpsEnds
-        ensures { gpsBetween result ≡ gpsIn range }
+        ensures { gps_between result ≡ gps_in range }
     {
         match range {
             GpsRange::Missing => GpsEnds {
@@ -56,7 +56,7 @@ impl GpsEnds {
 
     // The range between them.
     pub(crate) fn range(self) -> GpsRange
-        ensures { gpsIn result ≡ gpsBetween self }
+        ensures { gps_in result ≡ gps_between self }
     {
         if self.seen == 0 {
             return GpsRange::Missing;
@@ -77,7 +77,7 @@ impl GpsEnds {
 
     // Of one height more, where it counts.
     pub(crate) fn after(self, counts: bool, place: u64, height: GpsAlt) -> GpsEnds
-        ensures { gpsBetween result ≡ withGps counts place height (gpsBetween self) }
+        ensures { gps_between result ≡ with_gps counts place height (gps_between self) }
     {
         if !counts {
             return self;

@@ -10,16 +10,16 @@ mod times;
 
 ghost use Rattle.std.specs.Prelude.{◌≡◌, ◌+◌, ◌≤◌, length};
 ghost use Rattle.text.specs.Word.{largest};
-ghost use Rattle.report.specs.Report.{figuresIn};
-ghost use Rattle.reported.specs.Reported.{figuresOn, nothingYet, reportOn, soFarIn};
+ghost use Rattle.report.specs.Report.{figures_in};
+ghost use Rattle.reported.specs.Reported.{figures_on, nothing_yet, report_on_of, so_far_in};
 
 use crate::flat::Flat;
 use crate::glance::look;
-use log::cut_at;
+use igc_log::cut_at;
 use report::Report;
 
 // The report of the lines so far, and the place of the next.
-#[derive(Drop)]
+#[derive(Clone, Copy)]
 pub struct Sofar {
     pub report: Report,
     pub place: u64,
@@ -28,7 +28,7 @@ pub struct Sofar {
 impl Sofar {
     // Before the first line.
     pub fn new() -> Sofar
-        ensures { soFarIn result ≡ nothingYet }
+        ensures { so_far_in result ≡ nothing_yet }
     {
         Sofar {
             report: Report::new(),
@@ -40,7 +40,7 @@ impl Sofar {
 // The report over the lines of a piece more, whose first stands at a place.
 fn report_from(before: Report, place: u64, piece: &[u8]) -> Report
     requires { place + length piece.now ≤ largest }
-    ensures { figuresIn result ≡ figuresOn (figuresIn before) place piece.now }
+    ensures { figures_in result ≡ figures_on (figures_in before) place piece.now }
 {
     let mut answers = before.answers;
     let mut figures = Flat::of(before);
@@ -62,7 +62,7 @@ fn report_from(before: Report, place: u64, piece: &[u8]) -> Report
 
 // The report over a piece more. Where its end would pass 64 bits, it stays.
 pub fn report_on(before: Sofar, piece: &[u8]) -> Sofar
-    ensures { soFarIn result ≡ reportOn (soFarIn before) piece.now }
+    ensures { so_far_in result ≡ report_on_of (so_far_in before) piece.now }
 {
     let report = before.report;
     let place = before.place;

@@ -1,14 +1,14 @@
 // The highest and the lowest pressure height as numbers with no gap between them: a loop carries these, not a range.
 ghost use Rattle.std.specs.Prelude.{◌≡◌};
 ghost use Rattle.text.specs.Res.{pick};
-ghost use Rattle.report.specs.Report.{pressureIn};
-ghost use Rattle.reported.specs.Flat.{pressureBetween, withPressure};
+ghost use Rattle.report.specs.Report.{pressure_in};
+ghost use Rattle.reported.specs.Flat.{pressure_between, with_pressure};
 
 use crate::ends::{new_end, place_of};
 use b_record::PressureAlt;
 use report::pressure::{PressurePeak, PressureRange};
 
-#[derive(Drop)]
+#[derive(Clone, Copy)]
 pub(crate) struct PressureEnds {
     high_place: u64,
     low_place: u64,
@@ -30,7 +30,7 @@ fn height_of(new: bool, height: PressureAlt, before: PressureAlt) -> PressureAlt
 impl PressureEnds {
     // The ends of a range.
     pub(crate) fn of(range: PressureRange) -> PressureEnds
-        ensures { pressureBetween result ≡ pressureIn range }
+        ensures { pressure_between result ≡ pressure_in range }
     {
         match range {
             PressureRange::Missing => PressureEnds {
@@ -56,7 +56,7 @@ impl PressureEnds {
 
     // The range between them.
     pub(crate) fn range(self) -> PressureRange
-        ensures { pressureIn result ≡ pressureBetween self }
+        ensures { pressure_in result ≡ pressure_between self }
     {
         if self.seen == 0 {
             return PressureRange::Missing;
@@ -77,7 +77,7 @@ impl PressureEnds {
 
     // Of one height more, where it counts.
     pub(crate) fn after(self, counts: bool, place: u64, height: PressureAlt) -> PressureEnds
-        ensures { pressureBetween result ≡ withPressure counts place height (pressureBetween self) }
+        ensures { pressure_between result ≡ with_pressure counts place height (pressure_between self) }
     {
         if !counts {
             return self;

@@ -1,13 +1,13 @@
 // The latest and the earliest seconds since midnight as numbers with no gap between them.
 ghost use Rattle.std.specs.Prelude.{◌≡◌};
 ghost use Rattle.text.specs.Res.{pick};
-ghost use Rattle.report.specs.Report.{timesIn};
-ghost use Rattle.reported.specs.Flat.{timesBetween, withTime};
+ghost use Rattle.report.specs.Report.{times_in};
+ghost use Rattle.reported.specs.Flat.{times_between, with_time_of};
 
 use crate::ends::new_end;
 use report::times::TimeRange;
 
-#[derive(Drop)]
+#[derive(Clone, Copy)]
 pub(crate) struct TimeEnds {
     latest: u32,
     earliest: u32,
@@ -27,7 +27,7 @@ fn seconds_of(new: bool, seconds: u32, before: u32) -> u32
 impl TimeEnds {
     // The ends of a range.
     pub(crate) fn of(range: TimeRange) -> TimeEnds
-        ensures { timesBetween result ≡ timesIn range }
+        ensures { times_between result ≡ times_in range }
     {
         match range {
             TimeRange::Missing => TimeEnds {
@@ -45,7 +45,7 @@ impl TimeEnds {
 
     // The range between them.
     pub(crate) fn range(self) -> TimeRange
-        ensures { timesIn result ≡ timesBetween self }
+        ensures { times_in result ≡ times_between self }
     {
         if self.seen == 0 {
             return TimeRange::Missing;
@@ -58,7 +58,7 @@ impl TimeEnds {
 
     // Of one time more, where it counts.
     pub(crate) fn after(self, counts: bool, seconds: u32) -> TimeEnds
-        ensures { timesBetween result ≡ withTime counts seconds (timesBetween self) }
+        ensures { times_between result ≡ with_time_of counts seconds (times_between self) }
     {
         if !counts {
             return self;

@@ -2,7 +2,7 @@
 use Rattle.text.specs.Prelude.{ℕ, Bool, List, [], ◌∷◌, ◌++◌, pick, LF, padded}
 use Rattle.std.proofs.Math.Option.{Option, some}
 use Rattle.text.specs.Spelt.{spelt}
-use Rattle.b_record.specs.BRecord.{pressureText, gpsText}
+use Rattle.b_record.specs.BRecord.{pressure_text, gps_text}
 use Rattle.report.specs.Range.{Range, between}
 use Rattle.report.specs.declared.{pressure.PressurePeak.PressurePeak, gps.GpsPeak.GpsPeak}
 use Rattle.rise_text.specs.declared.{pressure.PressureRise.PressureRise, gps.GpsRise.GpsRise}
@@ -16,27 +16,27 @@ raised below Range.none (between high low) = some high
 raised below (between high low) (between high' low') = pick (below high high') (some high') Option.none
 
 -- The pressure height that was risen to.
-unfoldable pub pressureRise : Option PressurePeak → PressureRise
-pressureRise Option.none = PressureRise.Same
-pressureRise (some p) = PressureRise.To p.height
+unfoldable pub pressure_rise : Option PressurePeak → PressureRise
+pressure_rise Option.none = PressureRise.Same
+pressure_rise (some p) = PressureRise.To p.height
 
 -- The GPS height that was risen to.
-unfoldable pub gpsRise : Option GpsPeak → GpsRise
-gpsRise Option.none = GpsRise.Same
-gpsRise (some p) = GpsRise.To p.height
+unfoldable pub gps_rise : Option GpsPeak → GpsRise
+gps_rise Option.none = GpsRise.Same
+gps_rise (some p) = GpsRise.To p.height
 
 -- ---- what is written of it
 
 -- A line's number, the datum, and the height.
-unfoldable pub riseText : ℕ → List ℕ → List ℕ → List ℕ
-riseText n datum height = padded 1 n ++ (datum ++ (height ++ (LF ∷ [])))
+unfoldable pub rise_text_of : ℕ → List ℕ → List ℕ → List ℕ
+rise_text_of n datum height = padded 1 n ++ (datum ++ (height ++ (LF ∷ [])))
 
 -- The pressure height that line n rose to; where it rose to none, nothing.
-unfoldable pub pressureLine : ℕ → PressureRise → List ℕ
-pressureLine n PressureRise.Same = []
-pressureLine n (PressureRise.To h) = riseText n (spelt " pressure ") (pressureText 1 h)
+unfoldable pub pressure_line : ℕ → PressureRise → List ℕ
+pressure_line n PressureRise.Same = []
+pressure_line n (PressureRise.To h) = rise_text_of n (spelt " pressure ") (pressure_text 1 h)
 
 -- The GPS height that line n rose to; where it rose to none, nothing.
-unfoldable pub gpsLine : ℕ → GpsRise → List ℕ
-gpsLine n GpsRise.Same = []
-gpsLine n (GpsRise.To h) = riseText n (spelt " gps ") (gpsText 1 h)
+unfoldable pub gps_line : ℕ → GpsRise → List ℕ
+gps_line n GpsRise.Same = []
+gps_line n (GpsRise.To h) = rise_text_of n (spelt " gps ") (gps_text 1 h)

@@ -1,8 +1,8 @@
 // GPS heights that a summit rose to. No place that wants a pressure height takes one.
 ghost use Rattle.std.specs.Prelude.{◌≡◌};
 ghost use Rattle.put.specs.Put.{Wrote};
-ghost use Rattle.report.specs.Report.{belowGps, gpsIn};
-ghost use Rattle.rise_text.specs.Rise.{raised, gpsRise, gpsLine};
+ghost use Rattle.report.specs.Report.{below_gps, gps_in};
+ghost use Rattle.rise_text.specs.Rise.{raised, gps_rise, gps_line};
 
 use b_record::GpsAlt;
 use print::number::put_nat;
@@ -10,7 +10,7 @@ use put::{put_byte, put_bytes};
 use report::gps::{GpsPeak, GpsRange};
 
 // What the last line raised: the summit is the same, or a height above it.
-#[derive(Drop)]
+#[derive(Clone, Copy)]
 pub enum GpsRise {
     Same,
     To(GpsAlt),
@@ -18,7 +18,7 @@ pub enum GpsRise {
 
 // By height alone.
 fn is_below(summit: GpsPeak, other: GpsPeak) -> bool
-    ensures { result ≡ belowGps summit other }
+    ensures { result ≡ below_gps summit other }
 {
     summit.height.0 < other.height.0
 }
@@ -26,7 +26,7 @@ fn is_below(summit: GpsPeak, other: GpsPeak) -> bool
 impl GpsRise {
     // From the heights before a line to those after it.
     pub fn between(before: GpsRange, now: GpsRange) -> GpsRise
-        ensures { result ≡ gpsRise (raised belowGps (gpsIn before) (gpsIn now)) }
+        ensures { result ≡ gps_rise (raised below_gps (gps_in before) (gps_in now)) }
     {
         match now {
             GpsRange::Missing => GpsRise::Same,
@@ -50,7 +50,7 @@ impl GpsRise {
 
     // The line of it.
     pub fn put(self, buf: &mut [u8], at: usize, number: u64) -> usize
-        ensures { Wrote buf.old at (gpsLine number self) buf.new result }
+        ensures { Wrote buf.old at (gps_line number self) buf.new result }
     {
         match self {
             GpsRise::Same => at,

@@ -1,8 +1,8 @@
 // Pressure heights that a summit rose to. No place that wants a GPS height takes one.
 ghost use Rattle.std.specs.Prelude.{◌≡◌};
 ghost use Rattle.put.specs.Put.{Wrote};
-ghost use Rattle.report.specs.Report.{belowPressure, pressureIn};
-ghost use Rattle.rise_text.specs.Rise.{raised, pressureRise, pressureLine};
+ghost use Rattle.report.specs.Report.{below_pressure, pressure_in};
+ghost use Rattle.rise_text.specs.Rise.{raised, pressure_rise, pressure_line};
 
 use b_record::PressureAlt;
 use print::number::put_nat;
@@ -10,7 +10,7 @@ use put::{put_byte, put_bytes};
 use report::pressure::{PressurePeak, PressureRange};
 
 // What the last line raised: the summit is the same, or a height above it.
-#[derive(Drop)]
+#[derive(Clone, Copy)]
 pub enum PressureRise {
     Same,
     To(PressureAlt),
@@ -18,7 +18,7 @@ pub enum PressureRise {
 
 // By height alone.
 fn is_below(summit: PressurePeak, other: PressurePeak) -> bool
-    ensures { result ≡ belowPressure summit other }
+    ensures { result ≡ below_pressure summit other }
 {
     summit.height.0 < other.height.0
 }
@@ -26,7 +26,7 @@ fn is_below(summit: PressurePeak, other: PressurePeak) -> bool
 impl PressureRise {
     // From the heights before a line to those after it.
     pub fn between(before: PressureRange, now: PressureRange) -> PressureRise
-        ensures { result ≡ pressureRise (raised belowPressure (pressureIn before) (pressureIn now)) }
+        ensures { result ≡ pressure_rise (raised below_pressure (pressure_in before) (pressure_in now)) }
     {
         match now {
             PressureRange::Missing => PressureRise::Same,
@@ -50,7 +50,7 @@ impl PressureRise {
 
     // The line of it.
     pub fn put(self, buf: &mut [u8], at: usize, number: u64) -> usize
-        ensures { Wrote buf.old at (pressureLine number self) buf.new result }
+        ensures { Wrote buf.old at (pressure_line number self) buf.new result }
     {
         match self {
             PressureRise::Same => at,

@@ -7,8 +7,8 @@ bit true = 1
 bit false = 0
 
 -- Bit n of a word is set.
-unfoldable pub hasBit : ℕ → ℕ → Bool
-hasBit n w = w / 2 ^ n % 2 =? 1
+unfoldable pub has_bit : ℕ → ℕ → Bool
+has_bit n w = w / 2 ^ n % 2 =? 1
 
 -- The word of k bits in which those bits are set whose numbers pass the test.
 unfoldable pub word : ℕ → (ℕ → Bool) → ℕ
@@ -16,6 +16,6 @@ word zero p = 0
 word (suc k) p = bit (p k) * 2 ^ k + word k p
 
 -- How many numbers below k pass the test.
-unfoldable pub howMany : ℕ → (ℕ → Bool) → ℕ
-howMany zero p = 0
-howMany (suc k) p = bit (p k) + howMany k p
+unfoldable pub how_many : ℕ → (ℕ → Bool) → ℕ
+how_many zero p = 0
+how_many (suc k) p = bit (p k) + how_many k p

@@ -1,19 +1,19 @@
 // The satellites that an F line lists, as src/records/f_record.rs has them: numbers 00 to 99, here kept as a set of
 // bits in two words.
 ghost use Rattle.std.specs.Prelude.{◌≡◌};
-ghost use Rattle.satellites.specs.Satellites.{hasNumber, with_number, Counts, readSatellites, satellitesRes};
+ghost use Rattle.satellites.specs.Satellites.{has_number, with_number, Counts, read_satellites, satellites_res};
 
 use field::first_other;
 use text::refusal::Refusal;
 
 // Bit n of `low` is the number n, bit n of `high` the number 64 + n.
-#[derive(Drop)]
+#[derive(Clone, Copy)]
 pub struct Satellites {
     pub low: u64,
     pub high: u64,
 }
 
-#[derive(Drop)]
+#[derive(Clone, Copy)]
 pub enum SatellitesRead {
     Ok(Satellites),
     Refused(Refusal),
@@ -22,7 +22,7 @@ pub enum SatellitesRead {
 impl Satellites {
     // The number is in the set; from 128 on none is.
     pub fn has(self, n: u8) -> bool
-        ensures { result ≡ hasNumber n self }
+        ensures { result ≡ has_number n self }
     {
         if n < 64 {
             return (self.low >> n) & 1 == 1;
@@ -62,7 +62,7 @@ impl Satellites {
 
     // Reads a list of two digits a satellite.
     pub fn parse(text: &[u8]) -> SatellitesRead
-        ensures { satellitesRes result ≡ readSatellites text.now }
+        ensures { satellites_res result ≡ read_satellites text.now }
     {
         if text.len() % 2 != 0 {
             return SatellitesRead::Refused(Refusal::Syntax);

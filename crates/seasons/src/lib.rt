@@ -13,7 +13,7 @@ use sheets::report_file;
 use total::Total;
 
 // The total so far; whether each log went into it; whether the sheet can still be written.
-#[derive(Drop)]
+#[derive(Clone, Copy)]
 struct Season {
     total: Total,
     whole: bool,

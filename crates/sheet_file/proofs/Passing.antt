@@ -1,93 +1,93 @@
 -- Lines before the last block go by: a sheet is read alike without them, but for the number of a line.
 use Rattle.text.specs.Prelude.{ℕ, ◌+◌, ◌-◌, ◌≤◌, ◌≡◌, Bool, true, false, List, [], ◌∷◌, ◌++◌, length, take, drop, pick}
 use Rattle.text.specs.Prelude.{◌=?◌, ◌∧?◌, LF}
-use Rattle.text.proofs.Prelude.{arith, refl, sym, ap, ◌∙◌, subst, append_assoc, length-append, first, second, by-test}
+use Rattle.text.proofs.Prelude.{arith, refl, sym, ap, ◌∙◌, subst, append_assoc, length-append, first, second, by_test}
 use Rattle.text.proofs.Prelude.{never, yes=, no=, is=, holds, fails, both}
-use Rattle.text.specs.Spelt.{speltFrom, spelt}
+use Rattle.text.specs.Spelt.{spelt_from, spelt}
 use lib.Seq.{take-append-add, take-append_seam}
 use lib.ListN.{take-append-drop}
-use Rattle.log.specs.Log.{closedFrom, closed}
-use Rattle.window.specs.Piece.{wholeLength, pieceEnd}
-use Rattle.window.proofs.Wholes.{whole-closed}
+use Rattle.igc_log.specs.Log.{closed_from, closed}
+use Rattle.window.specs.Piece.{whole_length_of, piece_end_of}
+use Rattle.window.proofs.Wholes.{whole_closed}
 use Rattle.total.specs.Total.{Totals}
 use Rattle.block_read.specs.Read.{Read, got, wrong, starts_with}
 use Rattle.block_read.specs.Block.{read_all}
-use Rattle.block_read.proofs.Leaving.{Leaves, leaves-next, leaves-pick, leaves-got, leaves-wrong, leaves_all}
-use Rattle.sheet_read.specs.Sheet.{fromAll, ends, line_at, Sheet, whole, noSheet, sheetOf, readSheet}
+use Rattle.block_read.proofs.Leaving.{Leaves, leaves_next, leaves_pick, leaves_got, leaves_wrong, leaves_all}
+use Rattle.sheet_read.specs.Sheet.{from_all_of, ends, line_at, Sheet, whole, no_sheet, sheet_of, read_sheet_of}
 use Rattle.sheet_file.specs.File.{passing}
 
 -- ---- a line's start
 
 -- words that no LF is in
-unfoldable pub inLine : List ℕ → Bool
-inLine [] = true
-inLine (w ∷ ws) = pick (w =? LF) false (inLine ws)
+unfoldable pub in_line : List ℕ → Bool
+in_line [] = true
+in_line (w ∷ ws) = pick (w =? LF) false (in_line ws)
 
-in-line : {w : ℕ} (ws : List ℕ) → inLine (w ∷ ws) ≡ true → (w ≡ LF → ⊥) × (inLine ws ≡ true)
-unfolding inLine pick
-in-line {w} ws h = by-test (w =? LF) (λ e. never (rw e at h) refl) (λ e. ((λ q. never (yes= q) e), (rw e at h)))
+in_line_lem : {w : ℕ} (ws : List ℕ) → in_line (w ∷ ws) ≡ true → (w ≡ LF → ⊥) × (in_line ws ≡ true)
+unfolding in_line pick
+in_line_lem {w} ws h = by_test (w =? LF) (λ e. never (rw e at h) refl) (λ e. ((λ q. never (yes= q) e), (rw e at h)))
 
 -- where lines begin with such words does not go by what is behind them
-starts-line : (ws : List ℕ) → inLine ws ≡ true → (b : ℕ) (g s : List ℕ) → closedFrom b g ≡ true →
+starts_line : (ws : List ℕ) → in_line ws ≡ true → (b : ℕ) (g s : List ℕ) → closed_from b g ≡ true →
     starts_with ws (b ∷ (g ++ s)) ≡ starts_with ws (b ∷ g)
-unfolding starts_with closedFrom
-starts-line [] h b g s c = refl
-starts-line (w ∷ ws) h b [] s c =
-    let e : (w =? b) ≡ false = no= (λ q. (in-line ws h).0 (q ∙ is= c)) in
+unfolding starts_with closed_from
+starts_line [] h b g s c = refl
+starts_line (w ∷ ws) h b [] s c =
+    let e : (w =? b) ≡ false = no= (λ q. (in_line_lem ws h).0 (q ∙ is= c)) in
     fails _ e ∙ sym (fails _ e)
-starts-line (w ∷ []) h b (x ∷ g) s c = refl
-starts-line (w ∷ v ∷ ws) h b (x ∷ g) s c =
-    ap (λ t. (w =? b) ∧? t) (starts-line (v ∷ ws) (in-line (v ∷ ws) h).1 x g s c)
+starts_line (w ∷ []) h b (x ∷ g) s c = refl
+starts_line (w ∷ v ∷ ws) h b (x ∷ g) s c =
+    ap (λ t. (w =? b) ∧? t) (starts_line (v ∷ ws) (in_line_lem (v ∷ ws) h).1 x g s c)
 
-all-in-line : inLine (spelt "all ") ≡ true
-unfolding inLine spelt speltFrom pick ◌=?◌
-all-in-line = refl
+all_in_line : in_line (spelt "all ") ≡ true
+unfolding in_line spelt spelt_from pick ◌=?◌
+all_in_line = refl
 
 -- ---- lines that go by
 
-no-cons : {b : ℕ} {s : List ℕ} → b ∷ s ≡ [] → ⊥
-no-cons h = absurd (omega (arith, ap length h))
+no_cons : {b : ℕ} {s : List ℕ} → b ∷ s ≡ [] → ⊥
+no_cons h = absurd (omega (arith, ap length h))
 
 -- before bytes of which no line begins with `all `, whatever is behind
-from-behind : (start : Bool) (b : ℕ) (g s : List ℕ) → closedFrom b g ≡ true → fromAll start (b ∷ g) ≡ [] →
-    fromAll start (b ∷ (g ++ s)) ≡ fromAll true s
-unfolding fromAll closedFrom
-from-behind start b [] s c h =
-    by-test (start ∧? starts_with (spelt "all ") (b ∷ []))
-    (λ e. absurd (no-cons (first _ e refl ∙ h)))
-    (λ e. sym (second _ (ap (λ t. start ∧? t) (starts-line (spelt "all ") all-in-line b [] s c) ∙ e)
-    (ap (λ t. fromAll t s) (sym c))))
-from-behind start b (x ∷ g) s c h =
-    by-test (start ∧? starts_with (spelt "all ") (b ∷ x ∷ g))
-    (λ e. absurd (no-cons (first _ e refl ∙ h)))
-    (λ e. sym (second _ (ap (λ t. start ∧? t) (starts-line (spelt "all ") all-in-line b (x ∷ g) s c) ∙ e)
-    (sym (from-behind (b =? LF) x g s c (second _ e refl ∙ h)))))
+from_behind : (start : Bool) (b : ℕ) (g s : List ℕ) → closed_from b g ≡ true → from_all_of start (b ∷ g) ≡ [] →
+    from_all_of start (b ∷ (g ++ s)) ≡ from_all_of true s
+unfolding from_all_of closed_from
+from_behind start b [] s c h =
+    by_test (start ∧? starts_with (spelt "all ") (b ∷ []))
+    (λ e. absurd (no_cons (first _ e refl ∙ h)))
+    (λ e. sym (second _ (ap (λ t. start ∧? t) (starts_line (spelt "all ") all_in_line b [] s c) ∙ e)
+    (ap (λ t. from_all_of t s) (sym c))))
+from_behind start b (x ∷ g) s c h =
+    by_test (start ∧? starts_with (spelt "all ") (b ∷ x ∷ g))
+    (λ e. absurd (no_cons (first _ e refl ∙ h)))
+    (λ e. sym (second _ (ap (λ t. start ∧? t) (starts_line (spelt "all ") all_in_line b (x ∷ g) s c) ∙ e)
+    (sym (from_behind (b =? LF) x g s c (second _ e refl ∙ h)))))
 
-pub all-behind : (g s : List ℕ) → closed g ≡ true → fromAll true g ≡ [] → fromAll true (g ++ s) ≡ fromAll true s
+pub all_behind : (g s : List ℕ) → closed g ≡ true → from_all_of true g ≡ [] → from_all_of true (g ++ s) ≡ from_all_of true s
 unfolding closed
-all-behind [] s c h = refl
-all-behind (b ∷ g) s c h = from-behind true b g s c h
+all_behind [] s c h = refl
+all_behind (b ∷ g) s c h = from_behind true b g s c h
 
-from_le : (start : Bool) (s : List ℕ) → length (fromAll start s) ≤ length s
-unfolding fromAll pick
+from_le : (start : Bool) (s : List ℕ) → length (from_all_of start s) ≤ length s
+unfolding from_all_of pick
 from_le start [] = omega arith
 from_le start (b ∷ s) =
-    by-test (start ∧? starts_with (spelt "all ") (b ∷ s))
+    by_test (start ∧? starts_with (spelt "all ") (b ∷ s))
     (λ e. rw e (omega arith))
     (λ e. rw e (omega (arith, from_le (b =? LF) s)))
 
 -- ---- the number of a line
 
-pub ends-append : (s t : List ℕ) → ends (s ++ t) ≡ ends s + ends t
+pub ends_append : (s t : List ℕ) → ends (s ++ t) ≡ ends s + ends t
 unfolding ends
-ends-append [] t = omega arith
-ends-append (b ∷ s) t = omega (arith, ends-append s t)
+ends_append [] t = omega arith
+ends_append (b ∷ s) t = omega (arith, ends_append s t)
 
-line-behind : (g s r : List ℕ) → length r ≤ length s → line_at (g ++ s) r ≡ ends g + line_at s r
+line_behind : (g s r : List ℕ) → length r ≤ length s → line_at (g ++ s) r ≡ ends g + line_at s r
 unfolding line_at
-line-behind g s r h =
+line_behind g s r h =
     let e : length (g ++ s) - length r ≡ length g + (length s - length r) = omega (arith, length-append g s) in
-    let t = ends-append g (take (length s - length r) s) in
+    let t = ends_append g (take (length s - length r) s) in
     rw (e, take-append-add g s (length s - length r)) (omega (arith, t))
 
 -- ---- a sheet
@@ -95,22 +95,22 @@ line-behind g s r h =
 -- the same sheet with k lines before it
 abbrev pub later : ℕ → Sheet → Sheet
 later k (whole t) = whole t
-later k (noSheet n) = noSheet (k + n)
+later k (no_sheet n) = no_sheet (k + n)
 
-sheet-behind : (g s : List ℕ) (x : Read Totals) → Leaves (length s) x →
-    sheetOf (g ++ s) x ≡ later (ends g) (sheetOf s x)
-unfolding sheetOf
-sheet-behind g s (got t r) h = refl
-sheet-behind g s (wrong r) h = ap noSheet (line-behind g s r h.most)
+sheet_behind : (g s : List ℕ) (x : Read Totals) → Leaves (length s) x →
+    sheet_of (g ++ s) x ≡ later (ends g) (sheet_of s x)
+unfolding sheet_of
+sheet_behind g s (got t r) h = refl
+sheet_behind g s (wrong r) h = ap no_sheet (line_behind g s r h.most)
 
-pub read_behind : (g s : List ℕ) → closed g ≡ true → fromAll true g ≡ [] →
-    readSheet (g ++ s) ≡ later (ends g) (readSheet s)
-unfolding readSheet
+pub read_behind : (g s : List ℕ) → closed g ≡ true → from_all_of true g ≡ [] →
+    read_sheet_of (g ++ s) ≡ later (ends g) (read_sheet_of s)
+unfolding read_sheet_of
 read_behind g s c h =
-    rw (all-behind g s c h)
-    (sheet-behind g s _
-    (leaves-next (read_all (fromAll true s)) _ (leaves_all _ (from_le true s)) (λ t r k.
-    leaves-pick (length r =? 0) (leaves-got t r k) (leaves-wrong r k))))
+    rw (all_behind g s c h)
+    (sheet_behind g s _
+    (leaves_next (read_all (from_all_of true s)) _ (leaves_all _ (from_le true s)) (λ t r k.
+    leaves_pick (length r =? 0) (leaves_got t r k) (leaves_wrong r k))))
 
 -- ---- the lines of a window that go by
 
@@ -119,13 +119,13 @@ unfoldable ahead : Bool → List ℕ → List ℕ
 ahead start [] = []
 ahead start (b ∷ s) = pick (start ∧? starts_with (spelt "all ") (b ∷ s)) [] (b ∷ ahead (b =? LF) s)
 
-ahead-from : (start : Bool) (s : List ℕ) → ahead start s ++ fromAll start s ≡ s
-unfolding ahead fromAll pick
-ahead-from start [] = refl
-ahead-from start (b ∷ s) =
-    by-test (start ∧? starts_with (spelt "all ") (b ∷ s))
+ahead_from : (start : Bool) (s : List ℕ) → ahead start s ++ from_all_of start s ≡ s
+unfolding ahead from_all_of pick
+ahead_from start [] = refl
+ahead_from start (b ∷ s) =
+    by_test (start ∧? starts_with (spelt "all ") (b ∷ s))
     (λ e. rw e)
-    (λ e. rw e (ap (λ t. b ∷ t) (ahead-from (b =? LF) s)))
+    (λ e. rw e (ap (λ t. b ∷ t) (ahead_from (b =? LF) s)))
 
 starts_more : (ws s t : List ℕ) → starts_with ws s ≡ true → starts_with ws (s ++ t) ≡ true
 unfolding starts_with
@@ -134,51 +134,51 @@ starts_more (w ∷ ws) [] t h = never h refl
 starts_more (w ∷ ws) (b ∷ s) t h = holds (both h).0 (starts_more ws s t (both h).1)
 
 -- no line of them begins so
-ahead_none : (start : Bool) (s : List ℕ) → fromAll start (ahead start s) ≡ []
-unfolding ahead fromAll pick
+ahead_none : (start : Bool) (s : List ℕ) → from_all_of start (ahead start s) ≡ []
+unfolding ahead from_all_of pick
 ahead_none start [] = refl
 ahead_none start (b ∷ s) =
-    by-test (start ∧? starts_with (spelt "all ") (b ∷ s))
+    by_test (start ∧? starts_with (spelt "all ") (b ∷ s))
     (λ e. rw e)
-    (λ e. by-test (start ∧? starts_with (spelt "all ") (b ∷ ahead (b =? LF) s))
-    (λ t. let more = starts_more (spelt "all ") (b ∷ ahead (b =? LF) s) (fromAll (b =? LF) s) (both t).1 in
-    never (holds (both t).0 (subst (λ x. starts_with (spelt "all ") (b ∷ x) ≡ true) (ahead-from (b =? LF) s) more)) e)
+    (λ e. by_test (start ∧? starts_with (spelt "all ") (b ∷ ahead (b =? LF) s))
+    (λ t. let more = starts_more (spelt "all ") (b ∷ ahead (b =? LF) s) (from_all_of (b =? LF) s) (both t).1 in
+    never (holds (both t).0 (subst (λ x. starts_with (spelt "all ") (b ∷ x) ≡ true) (ahead_from (b =? LF) s) more)) e)
     (λ t. rw (e, t) (ahead_none (b =? LF) s)))
 
 -- they are whole lines
-ahead-closed-from : (b : ℕ) (s : List ℕ) → closedFrom b s ≡ true → closedFrom b (ahead (b =? LF) s) ≡ true
-unfolding ahead closedFrom pick
-ahead-closed-from b [] h = h
-ahead-closed-from b (x ∷ s) h =
-    by-test ((b =? LF) ∧? starts_with (spelt "all ") (x ∷ s))
+ahead_closed_from : (b : ℕ) (s : List ℕ) → closed_from b s ≡ true → closed_from b (ahead (b =? LF) s) ≡ true
+unfolding ahead closed_from pick
+ahead_closed_from b [] h = h
+ahead_closed_from b (x ∷ s) h =
+    by_test ((b =? LF) ∧? starts_with (spelt "all ") (x ∷ s))
     (λ e. rw e (both e).0)
-    (λ e. rw e (ahead-closed-from x s h))
+    (λ e. rw e (ahead_closed_from x s h))
 
-ahead-closed : (s : List ℕ) → closed s ≡ true → closed (ahead true s) ≡ true
+ahead_closed : (s : List ℕ) → closed s ≡ true → closed (ahead true s) ≡ true
 unfolding ahead closed pick
-ahead-closed [] h = refl
-ahead-closed (b ∷ s) h =
-    by-test (true ∧? starts_with (spelt "all ") (b ∷ s))
+ahead_closed [] h = refl
+ahead_closed (b ∷ s) h =
+    by_test (true ∧? starts_with (spelt "all ") (b ∷ s))
     (λ e. rw e)
-    (λ e. rw e (ahead-closed-from b s h))
+    (λ e. rw e (ahead_closed_from b s h))
 
 -- the first so many bytes of the window
-passing-ahead : (w : List ℕ) → take (passing w) w ≡ ahead true (take (wholeLength w) w)
-unfolding passing pieceEnd
-passing-ahead w =
-    let x = take (wholeLength w) w in
-    let is = ahead-from true x in
-    let n : length x - length (fromAll true x) ≡ length (ahead true x) =
-    omega (arith, ap length is, length-append (ahead true x) (fromAll true x)) in
-    let rest = fromAll true x ++ drop (wholeLength w) w in
+passing_ahead : (w : List ℕ) → take (passing w) w ≡ ahead true (take (whole_length_of w) w)
+unfolding passing piece_end_of
+passing_ahead w =
+    let x = take (whole_length_of w) w in
+    let is = ahead_from true x in
+    let n : length x - length (from_all_of true x) ≡ length (ahead true x) =
+    omega (arith, ap length is, length-append (ahead true x) (from_all_of true x)) in
+    let rest = from_all_of true x ++ drop (whole_length_of w) w in
     let parts : ahead true x ++ rest ≡ w =
-    sym (append_assoc (ahead true x) (fromAll true x) (drop (wholeLength w) w))
-    ∙ ap (λ t. t ++ drop (wholeLength w) w) is
-    ∙ take-append-drop (wholeLength w) w in
+    sym (append_assoc (ahead true x) (from_all_of true x) (drop (whole_length_of w) w))
+    ∙ ap (λ t. t ++ drop (whole_length_of w) w) is
+    ∙ take-append-drop (whole_length_of w) w in
     rw n (ap (take (length (ahead true x))) (sym parts) ∙ take-append_seam (ahead true x) rest)
 
-pub passing-none : (w : List ℕ) → fromAll true (take (passing w) w) ≡ []
-passing-none w = rw (passing-ahead w) (ahead_none true _)
+pub passing_none : (w : List ℕ) → from_all_of true (take (passing w) w) ≡ []
+passing_none w = rw (passing_ahead w) (ahead_none true _)
 
-pub passing-closed : (w : List ℕ) → closed (take (passing w) w) ≡ true
-passing-closed w = rw (passing-ahead w) (ahead-closed _ (whole-closed w))
+pub passing_closed : (w : List ℕ) → closed (take (passing w) w) ≡ true
+passing_closed w = rw (passing_ahead w) (ahead_closed _ (whole_closed w))

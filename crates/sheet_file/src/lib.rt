@@ -1,9 +1,9 @@
 // A sheet of any length read through a window of fixed size: the lines before its last block go by, and are counted.
 ghost use Rattle.std.specs.Prelude.{◌+◌, min, ◌≡◌};
 ghost use Rattle.text.specs.Word.{largest};
-ghost use Rattle.total.specs.Total.{totalIn};
+ghost use Rattle.total.specs.Total.{total_in};
 ghost use Rattle.files.specs.Input.{Within};
-ghost use Rattle.sheet_file.specs.File.{turnIn, stopped, lastTurn, fullTurn, turned, windowAfter, Told};
+ghost use Rattle.sheet_file.specs.File.{turn_in, stopped, last_turn, full_turn, turned, window_after, Told};
 
 use files::input::{Filled, read_on};
 use sheet_read::{Verdict, count_ends, find_all, read_sheet};
@@ -12,7 +12,7 @@ use window::{keep_rest, piece_end};
 
 // A total was read; that line is not one of a sheet; what begins at that line is longer than the window; the file could
 // not be read to its end. Lines are counted from 1.
-#[derive(Drop)]
+#[derive(Clone, Copy)]
 pub enum Ended {
     Whole,
     Wrong(u64),
@@ -21,7 +21,7 @@ pub enum Ended {
 }
 
 // The total stands beside how it ended: an enum holds no array. Where none was read it is that of no logs.
-#[derive(Drop)]
+#[derive(Clone, Copy)]
 pub struct FileSheet {
     pub total: Total,
     pub ended: Ended,
@@ -29,7 +29,7 @@ pub struct FileSheet {
 
 // What goes from read to read: how many lines went by, how many bytes wait at the window's front, and whether a read is
 // to follow.
-#[derive(Drop)]
+#[derive(Clone, Copy)]
 struct Turn {
     before: u64,
     fill: usize,
@@ -49,7 +49,7 @@ fn count_on(lines: u64, more: u64) -> u64
 }
 
 fn stop(total: Total, ended: Ended) -> Turn
-    ensures { turnIn result ≡ stopped (totalIn total) ended }
+    ensures { turn_in result ≡ stopped (total_in total) ended }
 {
     Turn {
         before: 0,
@@ -62,7 +62,7 @@ fn stop(total: Total, ended: Ended) -> Turn
 
 // The last piece.
 fn finish(before: u64, sheet: &[u8]) -> Turn
-    ensures { turnIn result ≡ lastTurn before sheet.now }
+    ensures { turn_in result ≡ last_turn before sheet.now }
 {
     let read = read_sheet(sheet);
     let total = read.total;
@@ -75,8 +75,8 @@ fn finish(before: u64, sheet: &[u8]) -> Turn
 
 // A full window: the lines before the last block go by, and the rest goes to its front.
 fn pass(before: u64, win: &mut [u8]) -> Turn
-    ensures result_value { turnIn result ≡ fullTurn before win.old }
-    ensures win_after { win.new ≡ windowAfter result.more win.old }
+    ensures result_value { turn_in result ≡ full_turn before win.old }
+    ensures win_after { win.new ≡ window_after result.more win.old }
 {
     let whole = piece_end(win, false);
     let gone = find_all(&win[0..whole]);
@@ -97,8 +97,8 @@ fn pass(before: u64, win: &mut [u8]) -> Turn
 // By how far the window was filled.
 fn one_turn(filled: Filled, before: u64, win: &mut [u8]) -> Turn
     requires { Within filled win.old }
-    ensures result_value { turnIn result ≡ turned filled before win.old }
-    ensures win_after { win.new ≡ windowAfter result.more win.old }
+    ensures result_value { turn_in result ≡ turned filled before win.old }
+    ensures win_after { win.new ≡ window_after result.more win.old }
 {
     match filled {
         Filled::Ended(n) => finish(before, &win[0..n]),
@@ -109,7 +109,7 @@ fn one_turn(filled: Filled, before: u64, win: &mut [u8]) -> Turn
 
 // Reads the total of a sheet, a window at a time.
 pub fn read_file(fd: i32, win: &mut [u8]) -> FileSheet
-    ensures { Told (totalIn result.total) result.ended }
+    ensures { Told (total_in result.total) result.ended }
 {
     let mut before: u64 = 0;
     let mut fill = 0;

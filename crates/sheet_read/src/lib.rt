@@ -1,19 +1,19 @@
 // The total of a sheet, read back from its last block.
 ghost use Rattle.std.specs.Prelude.{◌≤◌, ◌≡◌, true, length, drop};
-ghost use Rattle.sheet_read.specs.Sheet.{fromAll, ends, readSheet, beside, sheetIn};
+ghost use Rattle.sheet_read.specs.Sheet.{from_all_of, ends, read_sheet_of, beside, sheet_in};
 
 use block_read::{read_block, starts_with};
 use total::Total;
 
 // The line at which it is no sheet, from 1.
-#[derive(Drop)]
+#[derive(Clone, Copy)]
 pub enum Verdict {
     Whole,
     Wrong(u64),
 }
 
 // The verdict stands beside the total: an enum holds no array. Where it is no sheet this is the total of no logs.
-#[derive(Drop)]
+#[derive(Clone, Copy)]
 pub struct SheetRead {
     pub total: Total,
     pub verdict: Verdict,
@@ -21,7 +21,7 @@ pub struct SheetRead {
 
 // Where the first line begins that begins with `all `; without one, the end.
 pub fn find_all(text: &[u8]) -> usize
-    ensures text_value { drop result text.now ≡ fromAll true text.now }
+    ensures text_value { drop result text.now ≡ from_all_of true text.now }
     ensures upper_bound { result ≤ length text.now }
 {
     let mut start = true;
@@ -55,7 +55,7 @@ pub fn count_ends(text: &[u8]) -> u64
 
 // The total of a sheet, or the line at which it is none.
 pub fn read_sheet(text: &[u8]) -> SheetRead
-    ensures { sheetIn result ≡ beside (readSheet text.now) }
+    ensures { sheet_in result ≡ beside (read_sheet_of text.now) }
 {
     let at = find_all(text);
     let block = read_block(&text[at..]);

@@ -4,10 +4,10 @@ pub mod line;
 pub mod pressure;
 
 ghost use Rattle.put.specs.Put.{Wrote};
-ghost use Rattle.report.specs.Report.{figuresIn};
-ghost use Rattle.total.specs.Total.{totalIn};
-ghost use Rattle.sheet_text.specs.Sheet.{pressurePeakLine, gpsPeakLine, pressureSpotLine, gpsSpotLine};
-ghost use Rattle.sheet_text.specs.Sheet.{figureLines, logText, allText};
+ghost use Rattle.report.specs.Report.{figures_in};
+ghost use Rattle.total.specs.Total.{total_in};
+ghost use Rattle.sheet_text.specs.Sheet.{pressure_peak_line, gps_peak_line, pressure_spot_line, gps_spot_line};
+ghost use Rattle.sheet_text.specs.Sheet.{figure_lines, log_text, all_text};
 
 use crate::line::{put_counts, put_number, put_times};
 use report::Report;
@@ -15,7 +15,7 @@ use total::Total;
 
 // The figures of a log.
 fn put_report(buf: &mut [u8], at: usize, report: Report) -> usize
-    ensures { Wrote buf.old at (figureLines pressurePeakLine gpsPeakLine (figuresIn report))
+    ensures { Wrote buf.old at (figure_lines pressure_peak_line gps_peak_line (figures_in report))
         buf.new result }
 {
     let answers = report.answers;
@@ -30,7 +30,7 @@ fn put_report(buf: &mut [u8], at: usize, report: Report) -> usize
 
 // The figures of all logs.
 fn put_total(buf: &mut [u8], at: usize, total: Total) -> usize
-    ensures { Wrote buf.old at (figureLines pressureSpotLine gpsSpotLine (totalIn total).figures)
+    ensures { Wrote buf.old at (figure_lines pressure_spot_line gps_spot_line (total_in total).figures)
         buf.new result }
 {
     let answers = total.answers;
@@ -45,7 +45,7 @@ fn put_total(buf: &mut [u8], at: usize, total: Total) -> usize
 
 // The block of the log with that number.
 pub fn put_log(buf: &mut [u8], at: usize, number: u64, report: Report) -> usize
-    ensures { Wrote buf.old at (logText number (figuresIn report)) buf.new result }
+    ensures { Wrote buf.old at (log_text number (figures_in report)) buf.new result }
 {
     let next = put_number(buf, at, b"log ", number);
     put_report(buf, next, report)
@@ -53,7 +53,7 @@ pub fn put_log(buf: &mut [u8], at: usize, number: u64, report: Report) -> usize
 
 // The block of all logs.
 pub fn put_all(buf: &mut [u8], at: usize, total: Total) -> usize
-    ensures { Wrote buf.old at (allText (totalIn total)) buf.new result }
+    ensures { Wrote buf.old at (all_text (total_in total)) buf.new result }
 {
     let next = put_number(buf, at, b"all ", total.logs);
     put_total(buf, next, total)

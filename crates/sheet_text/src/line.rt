@@ -1,7 +1,7 @@
 // Lines of numbers, each behind its words and closed by LF.
 ghost use Rattle.put.specs.Put.{Wrote};
-ghost use Rattle.report.specs.Report.{timesIn};
-ghost use Rattle.sheet_text.specs.Sheet.{numberLine, answerLine, answerLines, countLines, timeLines, atPlace};
+ghost use Rattle.report.specs.Report.{times_in};
+ghost use Rattle.sheet_text.specs.Sheet.{number_line, answer_line, answer_lines, count_lines, time_lines, at_place_of};
 ghost use Rattle.sheet_text.specs.Sheet.{at_spot};
 
 use print::number::put_nat;
@@ -10,7 +10,7 @@ use report::times::TimeRange;
 
 // A number behind its words.
 pub(crate) fn put_number(buf: &mut [u8], at: usize, words: &[u8], n: u64) -> usize
-    ensures { Wrote buf.old at (numberLine words.now n) buf.new result }
+    ensures { Wrote buf.old at (number_line words.now n) buf.new result }
 {
     let at_number = put_bytes(buf, at, words);
     let at_end = put_nat(buf, at_number, n, 1);
@@ -19,7 +19,7 @@ pub(crate) fn put_number(buf: &mut [u8], at: usize, words: &[u8], n: u64) -> usi
 
 // How many lines have that answer; where none has, nothing.
 fn put_answer(buf: &mut [u8], at: usize, answer: u64, count: u64) -> usize
-    ensures { Wrote buf.old at (answerLine answer count) buf.new result }
+    ensures { Wrote buf.old at (answer_line answer count) buf.new result }
 {
     if count == 0 {
         return at;
@@ -31,7 +31,7 @@ fn put_answer(buf: &mut [u8], at: usize, answer: u64, count: u64) -> usize
 
 // How many lines have each answer.
 fn put_answers(buf: &mut [u8], at: usize, answers: [u64; 13]) -> usize
-    ensures { Wrote buf.old at (answerLines 0 answers) buf.new result }
+    ensures { Wrote buf.old at (answer_lines 0 answers) buf.new result }
 {
     let mut next = at;
     let mut i: usize = 0;
@@ -50,7 +50,7 @@ pub(crate) fn put_counts(
     answers: [u64; 13],
     fixes: u64,
 ) -> usize
-    ensures { Wrote buf.old at (countLines lines answers fixes) buf.new result }
+    ensures { Wrote buf.old at (count_lines lines answers fixes) buf.new result }
 {
     let at_answers = put_number(buf, at, b"lines ", lines);
     let at_fixes = put_answers(buf, at_answers, answers);
@@ -59,7 +59,7 @@ pub(crate) fn put_counts(
 
 // The earliest time and then the latest.
 pub(crate) fn put_times(buf: &mut [u8], at: usize, times: TimeRange) -> usize
-    ensures { Wrote buf.old at (timeLines (timesIn times)) buf.new result }
+    ensures { Wrote buf.old at (time_lines (times_in times)) buf.new result }
 {
     match times {
         TimeRange::Missing => put_bytes(buf, at, b"time none\n"),
@@ -72,7 +72,7 @@ pub(crate) fn put_times(buf: &mut [u8], at: usize, times: TimeRange) -> usize
 
 // A place in a log.
 pub(crate) fn put_place(buf: &mut [u8], at: usize, place: u64) -> usize
-    ensures { Wrote buf.old at (atPlace place) buf.new result }
+    ensures { Wrote buf.old at (at_place_of place) buf.new result }
 {
     put_number(buf, at, b" at ", place)
 }

@@ -1,9 +1,9 @@
 // Lines of pressure heights, of a log and of all logs.
 ghost use Rattle.put.specs.Put.{Wrote};
-ghost use Rattle.report.specs.Report.{pressureIn};
-ghost use Rattle.span.specs.Span.{pressureOver};
+ghost use Rattle.report.specs.Report.{pressure_in};
+ghost use Rattle.span.specs.Span.{pressure_over};
 ghost use Rattle.text.specs.Spelt.{spelt};
-ghost use Rattle.sheet_text.specs.Sheet.{pressurePeakLine, pressureSpotLine, rangeLines};
+ghost use Rattle.sheet_text.specs.Sheet.{pressure_peak_line, pressure_spot_line, range_lines};
 
 use crate::line::{put_place, put_spot};
 use put::put_bytes;
@@ -12,7 +12,7 @@ use span::pressure::{PressureSpan, PressureSpot};
 
 // A height of a log with its place, behind its words.
 fn put_peak_line(buf: &mut [u8], at: usize, words: &[u8], peak: PressurePeak) -> usize
-    ensures { Wrote buf.old at (pressurePeakLine words.now peak) buf.new result }
+    ensures { Wrote buf.old at (pressure_peak_line words.now peak) buf.new result }
 {
     let height = peak.height;
     let at_height = put_bytes(buf, at, words);
@@ -22,7 +22,7 @@ fn put_peak_line(buf: &mut [u8], at: usize, words: &[u8], peak: PressurePeak) ->
 
 // A height of all logs with its place, behind its words.
 fn put_spot_line(buf: &mut [u8], at: usize, words: &[u8], peak: PressureSpot) -> usize
-    ensures { Wrote buf.old at (pressureSpotLine words.now peak) buf.new result }
+    ensures { Wrote buf.old at (pressure_spot_line words.now peak) buf.new result }
 {
     let height = peak.height;
     let at_height = put_bytes(buf, at, words);
@@ -32,7 +32,7 @@ fn put_spot_line(buf: &mut [u8], at: usize, words: &[u8], peak: PressureSpot) ->
 
 // The highest and then the lowest of a log.
 pub(crate) fn put_range(buf: &mut [u8], at: usize, range: PressureRange) -> usize
-    ensures { Wrote buf.old at (rangeLines pressurePeakLine (spelt "pressure") (pressureIn range))
+    ensures { Wrote buf.old at (range_lines pressure_peak_line (spelt "pressure") (pressure_in range))
         buf.new result }
 {
     match range {
@@ -46,7 +46,7 @@ pub(crate) fn put_range(buf: &mut [u8], at: usize, range: PressureRange) -> usiz
 
 // The highest and then the lowest of all logs.
 pub(crate) fn put_span(buf: &mut [u8], at: usize, span: PressureSpan) -> usize
-    ensures { Wrote buf.old at (rangeLines pressureSpotLine (spelt "pressure") (pressureOver span))
+    ensures { Wrote buf.old at (range_lines pressure_spot_line (spelt "pressure") (pressure_over span))
         buf.new result }
 {
     match span {

@@ -2,17 +2,17 @@
 use Rattle.text.specs.Prelude.{ℕ, ◌+◌, ◌-◌, ◌≤◌, ◌≡◌, Bool, true, false, List, length, take, drop, pick, ◌≤?◌, ◌=?◌}
 use Rattle.text.specs.Prelude.{largest}
 use Rattle.std.proofs.lemmas.List.Edits.{sets}
-use Rattle.log.specs.Log.{closed, readings}
-use Rattle.window.specs.Piece.{pieceEnd}
+use Rattle.igc_log.specs.Log.{closed, readings}
+use Rattle.window.specs.Piece.{piece_end_of}
 use Rattle.files.specs.declared.{input.Filled.Filled, outcome.Outcome.Outcome}
 use Rattle.walk.specs.Readings.{reader}
-use Rattle.report.specs.Report.{reportOf}
-use Rattle.reported.specs.Reported.{SoFar, nothingYet, reportOn, soFarIn}
+use Rattle.report.specs.Report.{report_of}
+use Rattle.reported.specs.Reported.{SoFar, nothing_yet, report_on_of, so_far_in}
 use Rattle.sheets.specs.declared.Turn.{Turn}
 
 -- The end of these lines stands in 64 bits.
-unfoldable pub hasRoom : SoFar → List ℕ → Bool
-hasRoom c lines = c.place + length lines ≤? largest
+unfoldable pub has_room_of : SoFar → List ℕ → Bool
+has_room_of c lines = c.place + length lines ≤? largest
 
 -- ---- a turn
 
@@ -30,30 +30,30 @@ unfoldable pub stopped : SoFar → Outcome → Onward
 stopped c o = record { sofar = c; fill = 0; more = false; outcome = o }
 
 -- After the last read all lines are taken; where they can't be, it was not read to its end.
-unfoldable pub lastTurn : SoFar → List ℕ → Onward
-lastTurn c lines = pick (hasRoom c lines) (stopped (reportOn c lines) Outcome.Done) (stopped c Outcome.NotRead)
+unfoldable pub last_turn : SoFar → List ℕ → Onward
+last_turn c lines = pick (has_room_of c lines) (stopped (report_on_of c lines) Outcome.Done) (stopped c Outcome.NotRead)
 
 -- Whole lines of a full window w are taken, and what is behind them waits.
-unfoldable pub takeWhole : SoFar → List ℕ → ℕ → Onward
-takeWhole c w n =
-    pick (hasRoom c (take n w))
-    (record { sofar = reportOn c (take n w); fill = length w - n; more = true; outcome = Outcome.Done })
+unfoldable pub take_whole : SoFar → List ℕ → ℕ → Onward
+take_whole c w n =
+    pick (has_room_of c (take n w))
+    (record { sofar = report_on_of c (take n w); fill = length w - n; more = true; outcome = Outcome.Done })
     (stopped c Outcome.NotRead)
 
 -- Of a full window all whole lines are taken; where it has none, its line is too long.
-unfoldable pub fullTurn : SoFar → List ℕ → Onward
-fullTurn c w =
-    pick (pieceEnd false w =? 0) (stopped c (Outcome.LongLine c.figures.lines)) (takeWhole c w (pieceEnd false w))
+unfoldable pub full_turn : SoFar → List ℕ → Onward
+full_turn c w =
+    pick (piece_end_of false w =? 0) (stopped c (Outcome.LongLine c.figures.lines)) (take_whole c w (piece_end_of false w))
 
 -- By how far the window w was filled; of one that was not read nothing is taken.
 unfoldable pub turned : Filled → SoFar → List ℕ → Onward
-turned (Filled.Ended n) c w = lastTurn c (take n w)
-turned Filled.Full c w = fullTurn c w
+turned (Filled.Ended n) c w = last_turn c (take n w)
+turned Filled.Full c w = full_turn c w
 turned Filled.Failed c w = stopped c Outcome.NotRead
 
 -- Where a read is to follow, what is behind the whole lines stands in front; else the window is as it was.
-unfoldable pub windowAfter : Bool → List ℕ → List ℕ
-windowAfter more w = pick more (sets w 0 (drop (pieceEnd false w) w)) w
+unfoldable pub window_after : Bool → List ℕ → List ℕ
+window_after more w = pick more (sets w 0 (drop (piece_end_of false w) w)) w
 
 -- ---- from read to read
 
@@ -61,15 +61,15 @@ windowAfter more w = pick more (sets w 0 (drop (pieceEnd false w) w)) w
 pub record Goes (c c' : SoFar) (more : Bool) : Type 0 where
   pub bytes : List ℕ
   pub room : c.place + length bytes ≤ largest
-  pub made : c' ≡ reportOn c bytes
+  pub made : c' ≡ report_on_of c bytes
   pub whole : more ≡ true → closed bytes ≡ true
 
 -- What goes from the start is the report of these bytes, by its definition over the readings of a walk.
 pub record FromStart : Type 0 where
-  pub report : (c : SoFar) (more : Bool) (g : Goes nothingYet c more) →
-      c ≡ record { figures = reportOf (readings reader g.bytes); place = length g.bytes }
+  pub report : (c : SoFar) (more : Bool) (g : Goes nothing_yet c more) →
+      c ≡ record { figures = report_of (readings reader g.bytes); place = length g.bytes }
 
 -- ---- what the code holds
 
-abbrev pub turnIn : Turn → Onward
-turnIn t = record { sofar = soFarIn t.sofar; fill = t.fill; more = t.more; outcome = t.outcome }
+abbrev pub turn_in : Turn → Onward
+turn_in t = record { sofar = so_far_in t.sofar; fill = t.fill; more = t.more; outcome = t.outcome }

@@ -2,8 +2,8 @@
 // whole, and these lines are taken; the rest waits for the next read.
 
 ghost use Rattle.std.specs.Prelude.{◌≡◌, false};
-ghost use Rattle.reported.specs.Reported.{soFarIn, nothingYet};
-ghost use Rattle.sheets.specs.Sheets.{hasRoom, turnIn, stopped, lastTurn, fullTurn, turned, windowAfter, Goes};
+ghost use Rattle.reported.specs.Reported.{so_far_in, nothing_yet};
+ghost use Rattle.sheets.specs.Sheets.{has_room_of, turn_in, stopped, last_turn, full_turn, turned, window_after, Goes};
 ghost use Rattle.files.specs.Input.{Within};
 
 use files::input::{Filled, read_on};
@@ -12,7 +12,7 @@ use reported::{Sofar, report_on};
 use window::{keep_rest, piece_end};
 
 // What goes from read to read: the report, how many bytes wait at the window's front, and whether a read is to follow.
-#[derive(Drop)]
+#[derive(Clone, Copy)]
 struct Turn {
     sofar: Sofar,
     fill: usize,
@@ -21,7 +21,7 @@ struct Turn {
 }
 
 // The report of the lines that were taken, and how it ended.
-#[derive(Drop)]
+#[derive(Clone, Copy)]
 pub struct FileReport {
     pub sofar: Sofar,
     pub outcome: Outcome,
@@ -29,13 +29,13 @@ pub struct FileReport {
 
 // The end of these lines stands in 64 bits.
 fn has_room(sofar: Sofar, lines: &[u8]) -> bool
-    ensures { result ≡ hasRoom (soFarIn sofar) lines.now }
+    ensures { result ≡ has_room_of (so_far_in sofar) lines.now }
 {
     lines.len() as u64 <= 0xffff_ffff_ffff_ffff - sofar.place
 }
 
 fn stop(sofar: Sofar, outcome: Outcome) -> Turn
-    ensures { turnIn result ≡ stopped (soFarIn sofar) outcome }
+    ensures { turn_in result ≡ stopped (so_far_in sofar) outcome }
 {
     Turn {
         sofar,
@@ -47,7 +47,7 @@ fn stop(sofar: Sofar, outcome: Outcome) -> Turn
 
 // The last piece.
 fn finish(sofar: Sofar, lines: &[u8]) -> Turn
-    ensures { turnIn result ≡ lastTurn (soFarIn sofar) lines.now }
+    ensures { turn_in result ≡ last_turn (so_far_in sofar) lines.now }
 {
     if !has_room(sofar, lines) {
         return stop(sofar, Outcome::NotRead);
@@ -58,8 +58,8 @@ fn finish(sofar: Sofar, lines: &[u8]) -> Turn
 
 // A full window: its whole lines are taken, and the rest goes to its front.
 fn drain(sofar: Sofar, win: &mut [u8]) -> Turn
-    ensures result_value { turnIn result ≡ fullTurn (soFarIn sofar) win.old }
-    ensures win_after { win.new ≡ windowAfter result.more win.old }
+    ensures result_value { turn_in result ≡ full_turn (so_far_in sofar) win.old }
+    ensures win_after { win.new ≡ window_after result.more win.old }
 {
     let whole = piece_end(win, false);
     if whole == 0 {
@@ -81,8 +81,8 @@ fn drain(sofar: Sofar, win: &mut [u8]) -> Turn
 // By how far the window was filled: what can be taken of it is.
 fn one_turn(filled: Filled, sofar: Sofar, win: &mut [u8]) -> Turn
     requires { Within filled win.old }
-    ensures result_value { turnIn result ≡ turned filled (soFarIn sofar) win.old }
-    ensures win_after { win.new ≡ windowAfter result.more win.old }
+    ensures result_value { turn_in result ≡ turned filled (so_far_in sofar) win.old }
+    ensures win_after { win.new ≡ window_after result.more win.old }
 {
     match filled {
         Filled::Ended(n) => finish(sofar, &win[0..n]),
@@ -93,7 +93,7 @@ fn one_turn(filled: Filled, sofar: Sofar, win: &mut [u8]) -> Turn
 
 // Reads a log into a report, a window at a time.
 pub fn report_file(fd: i32, win: &mut [u8]) -> FileReport
-    ensures { Goes nothingYet (soFarIn result.sofar) false }
+    ensures { Goes nothing_yet (so_far_in result.sofar) false }
 {
     let mut sofar = Sofar::new();
     let mut fill = 0;

@@ -1,59 +1,59 @@
 -- Log numbers that fit 64 bits.
 use Rattle.text.specs.Prelude.{ℕ, ◌+◌, ◌-◌, ◌≤◌, ◌≡◌, Bool, true, [], ◌∷◌, pick, largest}
-use Rattle.text.proofs.Prelude.{arith, refl, sym, ◌∙◌, yes≤, no≤, is≤, holds, fails, both, by-test, first}
+use Rattle.text.proofs.Prelude.{arith, refl, sym, ◌∙◌, yes≤, no≤, is≤, holds, fails, both, by_test, first}
 use lib.Dec.{leb}
 use borrow.Author.Tests.{leb-true, leb-false}
 use Rattle.report.specs.Range.{Range, none, between, turned, higher, joined}
-use Rattle.span.specs.Span.{mapped, all_fit, numbersOf, shifted}
+use Rattle.span.specs.Span.{mapped, all_fit, numbers_of, shifted}
 
 -- the code's test of the last sum
 pub last_fits : (k n : ℕ) → k ≤ largest → leb n (largest - k) ≡ all_fit ((k + n) ∷ [])
 unfolding all_fit
 last_fits k n h =
-    by-test (leb n (largest - k))
+    by_test (leb n (largest - k))
     (λ e. e ∙ sym (holds (yes≤ (omega (arith, leb-true n (largest - k) e))) refl))
     (λ e. e ∙ sym (fails _ (no≤ (omega (arith, leb-false n (largest - k) e)))))
 
 -- ---- log numbers of a highest and a lowest
 
 module _ {P : Type 0} (number : P → ℕ) where
-  pub pair-fit : (a b : P) → number a ≤ largest → number b ≤ largest → all_fit (numbersOf number (between a b)) ≡ true
-  unfolding all_fit numbersOf
-  pair-fit a b p q = holds (yes≤ p) (holds (yes≤ q) refl)
+  pub pair_fit : (a b : P) → number a ≤ largest → number b ≤ largest → all_fit (numbers_of number (between a b)) ≡ true
+  unfolding all_fit numbers_of
+  pair_fit a b p q = holds (yes≤ p) (holds (yes≤ q) refl)
 
-  pub fit-pair : (a b : P) → all_fit (numbersOf number (between a b)) ≡ true →
+  pub fit_pair : (a b : P) → all_fit (numbers_of number (between a b)) ≡ true →
       (number a ≤ largest) × (number b ≤ largest)
-  unfolding all_fit numbersOf
-  fit-pair a b e = (is≤ (both e).0, is≤ (both (both e).1).0)
+  unfolding all_fit numbers_of
+  fit_pair a b e = (is≤ (both e).0, is≤ (both (both e).1).0)
 
-  higher-fits : (below : P → P → Bool) (a b : P) → number a ≤ largest → number b ≤ largest →
+  higher_fits : (below : P → P → Bool) (a b : P) → number a ≤ largest → number b ≤ largest →
       number (higher below a b) ≤ largest
   unfolding higher pick
-  higher-fits below a b p q = by-test (below a b) (λ e. rw e q) (λ e. rw e p)
+  higher_fits below a b p q = by_test (below a b) (λ e. rw e q) (λ e. rw e p)
 
-  pub joined-fit : (below : P → P → Bool) (r s : Range P) → all_fit (numbersOf number r) ≡ true →
-      all_fit (numbersOf number s) ≡ true → all_fit (numbersOf number (joined below r s)) ≡ true
+  pub joined_fit : (below : P → P → Bool) (r s : Range P) → all_fit (numbers_of number r) ≡ true →
+      all_fit (numbers_of number s) ≡ true → all_fit (numbers_of number (joined below r s)) ≡ true
   unfolding joined
-  joined-fit below none s e f = f
-  joined-fit below (between a b) none e f = e
-  joined-fit below (between a b) (between a' b') e f =
-      let p = fit-pair a b e in
-      let q = fit-pair a' b' f in
-      pair-fit _ _ (higher-fits below a a' p.0 q.0) (higher-fits (turned below) b b' p.1 q.1)
+  joined_fit below none s e f = f
+  joined_fit below (between a b) none e f = e
+  joined_fit below (between a b) (between a' b') e f =
+      let p = fit_pair a b e in
+      let q = fit_pair a' b' f in
+      pair_fit _ _ (higher_fits below a a' p.0 q.0) (higher_fits (turned below) b b' p.1 q.1)
 
   -- with k logs more before them
   module _ (k : ℕ) (later : P → P) (is : (p : P) → number (later p) ≡ k + number p) where
-    pub earlier-fit : (r : Range P) → all_fit (numbersOf number (mapped later r)) ≡ true →
-        all_fit (numbersOf number r) ≡ true
+    pub earlier_fit : (r : Range P) → all_fit (numbers_of number (mapped later r)) ≡ true →
+        all_fit (numbers_of number r) ≡ true
     unfolding mapped
-    earlier-fit none e = e
-    earlier-fit (between a b) e =
-        let p = fit-pair (later a) (later b) e in
-        pair-fit a b (omega (arith, is a, p.0)) (omega (arith, is b, p.1))
+    earlier_fit none e = e
+    earlier_fit (between a b) e =
+        let p = fit_pair (later a) (later b) e in
+        pair_fit a b (omega (arith, is a, p.0)) (omega (arith, is b, p.1))
 
 -- ---- shifted where they fit
 
-pub shifted-fit : {P : Type 0} (number : P → ℕ) (f : P → P) (r : Range P) →
-    all_fit (numbersOf number (mapped f r)) ≡ true → shifted number f r ≡ mapped f r
+pub shifted_fit : {P : Type 0} (number : P → ℕ) (f : P → P) (r : Range P) →
+    all_fit (numbers_of number (mapped f r)) ≡ true → shifted number f r ≡ mapped f r
 unfolding shifted
-shifted-fit number f r e = sym (first _ e refl)
+shifted_fit number f r e = sym (first _ e refl)

@@ -9,20 +9,20 @@ use Rattle.span.specs.declared.{gps.GpsSpot.GpsSpot, gps.GpsSpan.GpsSpan}
 -- ---- heights with their log
 
 -- A pressure height of the log n: its place is log number and byte offset.
-unfoldable pub pressureSpot : ℕ → PressurePeak → PressureSpot
-pressureSpot n p = record { log = n; place = p.place; height = p.height }
+unfoldable pub pressure_spot : ℕ → PressurePeak → PressureSpot
+pressure_spot n p = record { log = n; place = p.place; height = p.height }
 
 -- A GPS height of the log n: its place is log number and byte offset.
-unfoldable pub gpsSpot : ℕ → GpsPeak → GpsSpot
-gpsSpot n p = record { log = n; place = p.place; height = p.height }
+unfoldable pub gps_spot : ℕ → GpsPeak → GpsSpot
+gps_spot n p = record { log = n; place = p.place; height = p.height }
 
 -- The first pressure height is the lower, wherever the two were seen.
-unfoldable pub lowerPressure : PressureSpot → PressureSpot → Bool
-lowerPressure a b = lt_z a.height.0 b.height.0
+unfoldable pub lower_pressure : PressureSpot → PressureSpot → Bool
+lower_pressure a b = lt_z a.height.0 b.height.0
 
 -- The first GPS height is the lower, wherever the two were seen.
-unfoldable pub lowerGps : GpsSpot → GpsSpot → Bool
-lowerGps a b = lt_z a.height.0 b.height.0
+unfoldable pub lower_gps : GpsSpot → GpsSpot → Bool
+lower_gps a b = lt_z a.height.0 b.height.0
 
 -- The same range of other things.
 unfoldable pub mapped : {P Q : Type 0} → (P → Q) → Range P → Range Q
@@ -32,12 +32,12 @@ mapped f (between high low) = between (f high) (f low)
 -- ---- with logs more before them
 
 -- A pressure height with k logs more before its own.
-unfoldable pub laterPressure : ℕ → PressureSpot → PressureSpot
-laterPressure k s = record { log = k + s.log; place = s.place; height = s.height }
+unfoldable pub later_pressure : ℕ → PressureSpot → PressureSpot
+later_pressure k s = record { log = k + s.log; place = s.place; height = s.height }
 
 -- A GPS height with k logs more before its own.
-unfoldable pub laterGps : ℕ → GpsSpot → GpsSpot
-laterGps k s = record { log = k + s.log; place = s.place; height = s.height }
+unfoldable pub later_gps : ℕ → GpsSpot → GpsSpot
+later_gps k s = record { log = k + s.log; place = s.place; height = s.height }
 
 -- Each of some numbers fits 64 bits.
 unfoldable pub all_fit : List ℕ → Bool
@@ -45,20 +45,20 @@ all_fit [] = true
 all_fit (n ∷ ns) = (n ≤? largest) ∧? all_fit ns
 
 -- The log numbers of a highest and a lowest.
-unfoldable pub numbersOf : {P : Type 0} → (P → ℕ) → Range P → List ℕ
-numbersOf number none = []
-numbersOf number (between high low) = number high ∷ number low ∷ []
+unfoldable pub numbers_of : {P : Type 0} → (P → ℕ) → Range P → List ℕ
+numbers_of number none = []
+numbers_of number (between high low) = number high ∷ number low ∷ []
 
 -- What f makes of a range where its log numbers fit 64 bits, else the range as it was.
 unfoldable pub shifted : {P : Type 0} → (P → ℕ) → (P → P) → Range P → Range P
-shifted number f r = pick (all_fit (numbersOf number (mapped f r))) (mapped f r) r
+shifted number f r = pick (all_fit (numbers_of number (mapped f r))) (mapped f r) r
 
 -- ---- what the code holds
 
-abbrev pub pressureOver : PressureSpan → Range PressureSpot
-pressureOver PressureSpan.Missing = none
-pressureOver (PressureSpan.Between high low) = between high low
+abbrev pub pressure_over : PressureSpan → Range PressureSpot
+pressure_over PressureSpan.Missing = none
+pressure_over (PressureSpan.Between high low) = between high low
 
-abbrev pub gpsOver : GpsSpan → Range GpsSpot
-gpsOver GpsSpan.Missing = none
-gpsOver (GpsSpan.Between high low) = between high low
+abbrev pub gps_over : GpsSpan → Range GpsSpot
+gps_over GpsSpan.Missing = none
+gps_over (GpsSpan.Between high low) = between high low

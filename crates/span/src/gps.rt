@@ -1,22 +1,22 @@
 // GPS heights over some logs, with their places. No place that wants a pressure height takes one.
 ghost use Rattle.std.specs.Prelude.{◌+◌, ◌≤◌, ◌≡◌};
 ghost use Rattle.report.specs.Range.{higher, joined, turned};
-ghost use Rattle.report.specs.Report.{gpsIn};
+ghost use Rattle.report.specs.Report.{gps_in};
 ghost use Rattle.text.specs.Word.{largest};
-ghost use Rattle.span.specs.Span.{all_fit, gpsOver, gpsSpot, laterGps, lowerGps, mapped, numbersOf, shifted};
+ghost use Rattle.span.specs.Span.{all_fit, gps_over, gps_spot, later_gps, lower_gps, mapped, numbers_of, shifted};
 
 use b_record::GpsAlt;
 use report::gps::{GpsPeak, GpsRange};
 
 // A height, and the log number, from 1, and the byte offset of the first fix that reached it.
-#[derive(Drop)]
+#[derive(Clone, Copy)]
 pub struct GpsSpot {
     pub log: u64,
     pub place: u64,
     pub height: GpsAlt,
 }
 
-#[derive(Drop)]
+#[derive(Clone, Copy)]
 pub enum GpsSpan {
     Missing,
     Between { high: GpsSpot, low: GpsSpot },
@@ -25,7 +25,7 @@ pub enum GpsSpan {
 impl GpsSpot {
     // A height of that log.
     fn in_log(log: u64, peak: GpsPeak) -> GpsSpot
-        ensures { result ≡ gpsSpot log peak }
+        ensures { result ≡ gps_spot log peak }
     {
         let height = peak.height;
         GpsSpot {
@@ -38,7 +38,7 @@ impl GpsSpot {
     // With so many logs more before its own.
     fn later(self, before: u64) -> GpsSpot
         requires { before + self.log ≤ largest }
-        ensures { result ≡ laterGps before self }
+        ensures { result ≡ later_gps before self }
     {
         let height = self.height;
         GpsSpot {
@@ -50,14 +50,14 @@ impl GpsSpot {
 
     // By height alone.
     fn below(self, other: GpsSpot) -> bool
-        ensures { result ≡ lowerGps self other }
+        ensures { result ≡ lower_gps self other }
     {
         self.height.0 < other.height.0
     }
 
     // The higher of two, of equals the first.
     fn higher(self, later: GpsSpot) -> GpsSpot
-        ensures { result ≡ higher lowerGps self later }
+        ensures { result ≡ higher lower_gps self later }
     {
         if self.below(later) {
             return later;
@@ -67,7 +67,7 @@ impl GpsSpot {
 
     // The lower of two, of equals the first.
     fn lower(self, later: GpsSpot) -> GpsSpot
-        ensures { result ≡ higher (turned lowerGps) self later }
+        ensures { result ≡ higher (turned lower_gps) self later }
     {
         if later.below(self) {
             return later;
@@ -79,7 +79,7 @@ impl GpsSpot {
 impl GpsSpan {
     // The heights of that log.
     pub fn in_log(log: u64, range: GpsRange) -> GpsSpan
-        ensures { gpsOver result ≡ mapped (gpsSpot log) (gpsIn range) }
+        ensures { gps_over result ≡ mapped (gps_spot log) (gps_in range) }
     {
         match range {
             GpsRange::Missing => GpsSpan::Missing,
@@ -92,7 +92,7 @@ impl GpsSpan {
 
     // Its log numbers fit with so many logs before them.
     pub fn fits(self, before: u64) -> bool
-        ensures { result ≡ all_fit (numbersOf (λ s. s.log) (mapped (laterGps before) (gpsOver self))) }
+        ensures { result ≡ all_fit (numbers_of (λ s. s.log) (mapped (later_gps before) (gps_over self))) }
     {
         match self {
             GpsSpan::Missing => true,
@@ -107,7 +107,7 @@ impl GpsSpan {
 
     // With so many logs before them, where its log numbers then fit; else as it was.
     pub fn later(self, before: u64) -> GpsSpan
-        ensures { gpsOver result ≡ shifted (λ s. s.log) (laterGps before) (gpsOver self) }
+        ensures { gps_over result ≡ shifted (λ s. s.log) (later_gps before) (gps_over self) }
     {
         if !self.fits(before) {
             return self;
@@ -123,7 +123,7 @@ impl GpsSpan {
 
     // What was seen first, and what was seen later, as one.
     pub fn join(self, later: GpsSpan) -> GpsSpan
-        ensures { gpsOver result ≡ joined lowerGps (gpsOver self) (gpsOver later) }
+        ensures { gps_over result ≡ joined lower_gps (gps_over self) (gps_over later) }
     {
         match self {
             GpsSpan::Missing => later,

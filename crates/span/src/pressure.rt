@@ -1,23 +1,23 @@
 // Pressure heights over some logs, with their places. No place that wants a GPS height takes one.
 ghost use Rattle.std.specs.Prelude.{◌+◌, ◌≤◌, ◌≡◌};
 ghost use Rattle.report.specs.Range.{higher, joined, turned};
-ghost use Rattle.report.specs.Report.{pressureIn};
+ghost use Rattle.report.specs.Report.{pressure_in};
 ghost use Rattle.text.specs.Word.{largest};
-ghost use Rattle.span.specs.Span.{all_fit, laterPressure, lowerPressure, mapped, numbersOf, pressureOver};
-ghost use Rattle.span.specs.Span.{pressureSpot, shifted};
+ghost use Rattle.span.specs.Span.{all_fit, later_pressure, lower_pressure, mapped, numbers_of, pressure_over};
+ghost use Rattle.span.specs.Span.{pressure_spot, shifted};
 
 use b_record::PressureAlt;
 use report::pressure::{PressurePeak, PressureRange};
 
 // A height, and the log number, from 1, and the byte offset of the first fix that reached it.
-#[derive(Drop)]
+#[derive(Clone, Copy)]
 pub struct PressureSpot {
     pub log: u64,
     pub place: u64,
     pub height: PressureAlt,
 }
 
-#[derive(Drop)]
+#[derive(Clone, Copy)]
 pub enum PressureSpan {
     Missing,
     Between {
@@ -29,7 +29,7 @@ pub enum PressureSpan {
 impl PressureSpot {
     // A height of that log.
     fn in_log(log: u64, peak: PressurePeak) -> PressureSpot
-        ensures { result ≡ pressureSpot log peak }
+        ensures { result ≡ pressure_spot log peak }
     {
         let height = peak.height;
         PressureSpot {
@@ -42,7 +42,7 @@ impl PressureSpot {
     // With so many logs more before its own.
     fn later(self, before: u64) -> PressureSpot
         requires { before + self.log ≤ largest }
-        ensures { result ≡ laterPressure before self }
+        ensures { result ≡ later_pressure before self }
     {
         let height = self.height;
         PressureSpot {
@@ -54,14 +54,14 @@ impl PressureSpot {
 
     // By height alone.
     fn below(self, other: PressureSpot) -> bool
-        ensures { result ≡ lowerPressure self other }
+        ensures { result ≡ lower_pressure self other }
     {
         self.height.0 < other.height.0
     }
 
     // The higher of two, of equals the first.
     fn higher(self, later: PressureSpot) -> PressureSpot
-        ensures { result ≡ higher lowerPressure self later }
+        ensures { result ≡ higher lower_pressure self later }
     {
         if self.below(later) {
             return later;
@@ -71,7 +71,7 @@ impl PressureSpot {
 
     // The lower of two, of equals the first.
     fn lower(self, later: PressureSpot) -> PressureSpot
-        ensures { result ≡ higher (turned lowerPressure) self later }
+        ensures { result ≡ higher (turned lower_pressure) self later }
     {
         if later.below(self) {
             return later;
@@ -83,7 +83,7 @@ impl PressureSpot {
 impl PressureSpan {
     // The heights of that log.
     pub fn in_log(log: u64, range: PressureRange) -> PressureSpan
-        ensures { pressureOver result ≡ mapped (pressureSpot log) (pressureIn range) }
+        ensures { pressure_over result ≡ mapped (pressure_spot log) (pressure_in range) }
     {
         match range {
             PressureRange::Missing => PressureSpan::Missing,
@@ -96,7 +96,7 @@ impl PressureSpan {
 
     // Its log numbers fit with so many logs before them.
     pub fn fits(self, before: u64) -> bool
-        ensures { result ≡ all_fit (numbersOf (λ s. s.log) (mapped (laterPressure before) (pressureOver self))) }
+        ensures { result ≡ all_fit (numbers_of (λ s. s.log) (mapped (later_pressure before) (pressure_over self))) }
     {
         match self {
             PressureSpan::Missing => true,
@@ -111,7 +111,7 @@ impl PressureSpan {
 
     // With so many logs before them, where its log numbers then fit; else as it was.
     pub fn later(self, before: u64) -> PressureSpan
-        ensures { pressureOver result ≡ shifted (λ s. s.log) (laterPressure before) (pressureOver self) }
+        ensures { pressure_over result ≡ shifted (λ s. s.log) (later_pressure before) (pressure_over self) }
     {
         if !self.fits(before) {
             return self;
@@ -127,7 +127,7 @@ impl PressureSpan {
 
     // What was seen first, and what was seen later, as one.
     pub fn join(self, later: PressureSpan) -> PressureSpan
-        ensures { pressureOver result ≡ joined lowerPressure (pressureOver self) (pressureOver later) }
+        ensures { pressure_over result ≡ joined lower_pressure (pressure_over self) (pressure_over later) }
     {
         match self {
             PressureSpan::Missing => later,

@@ -1,7 +1,7 @@
 // A log of any length through a window of fixed size: it is read, cut behind the last line that is whole, and written;
 // the rest waits for the next read.
 ghost use Rattle.std.specs.Prelude.{◌≡◌, false};
-ghost use Rattle.products.specs.Feed.{atFirst};
+ghost use Rattle.products.specs.Feed.{at_first_of};
 ghost use Rattle.stream.specs.Stream.{Streamed, Goes, Drains, Finished, Turned};
 ghost use Rattle.files.specs.Input.{Within};
 
@@ -11,7 +11,7 @@ use products::{Carried, Product, new, put_closing, put_lines};
 use window::{keep_rest, piece_end};
 
 // What is carried on, how many bytes were written, and what went wrong.
-#[derive(Drop)]
+#[derive(Clone, Copy)]
 struct Went {
     carried: Carried,
     taken: usize,
@@ -20,7 +20,7 @@ struct Went {
 
 // What goes from read to read: what is carried, how many bytes wait at the window's front, and whether a read is to
 // follow.
-#[derive(Drop)]
+#[derive(Clone, Copy)]
 struct Turn {
     carried: Carried,
     fill: usize,
@@ -29,7 +29,7 @@ struct Turn {
 }
 
 // What was carried at last, and how it ended.
-#[derive(Drop)]
+#[derive(Clone, Copy)]
 pub struct Ended {
     pub carried: Carried,
     pub outcome: Outcome,
@@ -170,7 +170,7 @@ pub fn run(
     to: i32,
     out: &mut [u8],
 ) -> Ended
-    ensures { Goes atFirst result.carried false }
+    ensures { Goes at_first_of result.carried false }
 {
     let mut carried = new();
     let mut fill = 0;

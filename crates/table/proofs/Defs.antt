@@ -1,9 +1,9 @@
 -- Definitions in turn: the loops that read them and put them.
 use Rattle.text.specs.Prelude.{ℕ, suc, ◌+◌, ◌-◌, ◌*◌, ◌≤◌, ◌<◌, min, ◌≡◌, Bool, true, false, List, [], ◌∷◌, ◌++◌, map}
-use Rattle.text.specs.Prelude.{length, take, drop, get_or, set, replicate, Res, ok, no, bind, moved, movedBy, cut}
+use Rattle.text.specs.Prelude.{length, take, drop, get_or, set, replicate, Res, ok, no, bind, moved, moved_by, cut}
 use Rattle.text.specs.Prelude.{columns}
 use Rattle.text.proofs.Prelude.{arith, refl, sym, ap, ◌∙◌, append-nil, append_assoc, length-append, take_all, drop-drop}
-use Rattle.text.proofs.Prelude.{off, found_in, refused-in, moved_twice}
+use Rattle.text.proofs.Prelude.{off, found_in, refused_in, moved_twice}
 use native.Mathlib.Nat.{add-zero, add-sub_cancel_left}
 use native.Mathlib.Numerals.{add-one}
 use lib.Dec.{leb}
@@ -11,30 +11,30 @@ use lib.ListN.{length-map}
 use lib.Seq.{set_at, take-suc}
 use borrow.Author.Tests.{leb-true, leb-false}
 use Rattle.text.specs.declared.refusal.Refusal.{Refusal}
-use Rattle.text.proofs.Lines.{cut-rest}
+use Rattle.text.proofs.Lines.{cut_rest}
 use Rattle.put.specs.Put.{Wrote}
 use Rattle.put.proofs.Writing.{then}
-use Rattle.extension.specs.Extension.{readExtension, extensionText}
-use Rattle.table.specs.Table.{empty, table_of, readDefs, defsText, tableRead}
+use Rattle.extension.specs.Extension.{read_extension, extension_text}
+use Rattle.table.specs.Table.{empty, table_of, read_defs, defs_text, table_read}
 use Rattle.extension.specs.declared.Extension.{Extension}
 use Rattle.table.specs.declared.{Verdict.TheVariants.Accepted, TableRead.TableRead}
 
 -- ---- reading
 
 -- definitions after those of p
-unfoldable pub defsBehind : List Extension → Res (List Extension) → Res (List Extension)
-defsBehind p m = bind m (λ es. ok (p ++ es))
+unfoldable pub defs_behind : List Extension → Res (List Extension) → Res (List Extension)
+defs_behind p m = bind m (λ es. ok (p ++ es))
 
-behind-none : (m : Res (List Extension)) → defsBehind [] m ≡ m
-unfolding defsBehind bind
-behind-none (ok es) = refl
-behind-none (no n) = refl
+behind_none : (m : Res (List Extension)) → defs_behind [] m ≡ m
+unfolding defs_behind bind
+behind_none (ok es) = refl
+behind_none (no n) = refl
 
-behind-one : (p : List Extension) (e : Extension) (m : Res (List Extension)) →
-    defsBehind p (bind m (λ es. ok (e ∷ es))) ≡ defsBehind (p ++ (e ∷ [])) m
-unfolding defsBehind bind
-behind-one p e (ok es) = ap ok (sym (append_assoc p (e ∷ []) es))
-behind-one p e (no n) = refl
+behind_one : (p : List Extension) (e : Extension) (m : Res (List Extension)) →
+    defs_behind p (bind m (λ es. ok (e ∷ es))) ≡ defs_behind (p ++ (e ∷ [])) m
+unfolding defs_behind bind
+behind_one p e (ok es) = ap ok (sym (append_assoc p (e ∷ []) es))
+behind_one p e (no n) = refl
 
 -- two in a row from a place on: the first of seven characters, and what comes behind it
 in_row : (a : ℕ) (x : Res Extension) (y : Res (List Extension)) →
@@ -47,12 +47,12 @@ in_row a (no n) y = moved_twice {A = List Extension} a 0 (no n)
     ∙ ap (λ (k : ℕ). moved {A = List Extension} k (no n)) (add-zero a)
 
 -- the first of k + 1 definitions from a place on, and the others
-readDefs-suc : (a k : ℕ) (s : List ℕ) →
-    moved a (readDefs (suc k) s)
-    ≡ bind (moved a (readExtension (take 7 s))) (λ e.
-    bind (moved (a + 7) (readDefs k (drop 7 s))) (λ es. ok (e ∷ es)))
-unfolding readDefs columns cut
-readDefs-suc a k s = rw (cut-rest s 7) (in_row a (readExtension (take 7 s)) (readDefs k (drop 7 s)))
+read_defs_suc : (a k : ℕ) (s : List ℕ) →
+    moved a (read_defs (suc k) s)
+    ≡ bind (moved a (read_extension (take 7 s))) (λ e.
+    bind (moved (a + 7) (read_defs k (drop 7 s))) (λ es. ok (e ∷ es)))
+unfolding read_defs columns cut
+read_defs_suc a k s = rw (cut_rest s 7) (in_row a (read_extension (take 7 s)) (read_defs k (drop 7 s)))
 
 -- i definitions of the line were read, those of p
 pub record Turn (s : List ℕ) (n i : ℕ) (defs : List Extension) : Type 0 where
@@ -60,48 +60,48 @@ pub record Turn (s : List ℕ) (n i : ℕ) (defs : List Extension) : Type 0 wher
   pub count : length p ≡ i
   pub inside : i ≤ n
   pub held : defs ≡ p ++ replicate (99 - i) empty
-  pub left : defsBehind p (moved (3 + i * 7) (readDefs (n - i) (drop (3 + i * 7) s)))
-      ≡ columns 3 (length s) (readDefs n) s
+  pub left : defs_behind p (moved (3 + i * 7) (read_defs (n - i) (drop (3 + i * 7) s)))
+      ≡ columns 3 (length s) (read_defs n) s
 
-pub turn-start : (s : List ℕ) (n : ℕ) → Turn s n 0 (replicate 99 empty)
+pub turn_start : (s : List ℕ) (n : ℕ) → Turn s n 0 (replicate 99 empty)
 unfolding columns cut
-turn-start s n =
+turn_start s n =
     record {
       p = [];
       count = refl;
       inside = omega arith;
       held = refl;
-      left = behind-none _ ∙ rw (cut-rest s 3) (ap (λ (k : ℕ). moved 3 (readDefs k (drop 3 s))) (omega arith));
+      left = behind_none _ ∙ rw (cut_rest s 3) (ap (λ (k : ℕ). moved 3 (read_defs k (drop 3 s))) (omega arith));
     }
 
 module _ (s : List ℕ) (n i : ℕ) (defs : List Extension) (t : Turn s n i defs) (more : i < n) where
   abbrev at : ℕ
   at = 3 + i * 7
 
-  rest : defsBehind t.p
-      (bind (moved at (readExtension (take 7 (drop at s)))) (λ e.
-      bind (moved (at + 7) (readDefs (n - (i + 1)) (drop (at + 7) s))) (λ es. ok (e ∷ es))))
-      ≡ columns 3 (length s) (readDefs n) s
+  rest : defs_behind t.p
+      (bind (moved at (read_extension (take 7 (drop at s)))) (λ e.
+      bind (moved (at + 7) (read_defs (n - (i + 1)) (drop (at + 7) s))) (λ es. ok (e ∷ es))))
+      ≡ columns 3 (length s) (read_defs n) s
   rest =
       let k : n - i ≡ suc (n - (i + 1)) = omega arith in
-      rw (← drop-drop 7 at s) (ap (defsBehind t.p) (sym (readDefs-suc at (n - (i + 1)) (drop at s)))
+      rw (← drop-drop 7 at s) (ap (defs_behind t.p) (sym (read_defs_suc at (n - (i + 1)) (drop at s)))
       ∙ (rw k at t.left))
 
   part : take (at + 7 - at) (drop at s) ≡ take 7 (drop at s)
   part = ap (λ (k : ℕ). take k (drop at s)) (add-sub_cancel_left at 7)
 
-  pub turn-refuses : {b r : Refusal} → no b ≡ readExtension (take (at + 7 - at) (drop at s)) → r ≡ movedBy at b →
-      no r ≡ columns 3 (length s) (readDefs n) s
-  unfolding defsBehind
-  turn-refuses h e = off _ (off _ (refused-in at (h ∙ ap readExtension part) e)) ∙ rest
+  pub turn_refuses : {b r : Refusal} → no b ≡ read_extension (take (at + 7 - at) (drop at s)) → r ≡ moved_by at b →
+      no r ≡ columns 3 (length s) (read_defs n) s
+  unfolding defs_behind
+  turn_refuses h e = off _ (off _ (refused_in at (h ∙ ap read_extension part) e)) ∙ rest
 
-  pub turn-next : n ≤ 99 → {e : Extension} → ok e ≡ readExtension (take (at + 7 - at) (drop at s)) →
+  pub turn_next : n ≤ 99 → {e : Extension} → ok e ≡ read_extension (take (at + 7 - at) (drop at s)) →
       Turn s n (i + 1) (set defs i e)
   unfolding bind
-  turn-next fits {e} h =
+  turn_next fits {e} h =
       let k : 99 - i ≡ suc (99 - (i + 1)) = omega arith in
       let d : 3 + (i + 1) * 7 ≡ at + 7 = omega arith in
-      let others : Res (List Extension) = moved (at + 7) (readDefs (n - (i + 1)) (drop (at + 7) s)) in
+      let others : Res (List Extension) = moved (at + 7) (read_defs (n - (i + 1)) (drop (at + 7) s)) in
       record {
         p = t.p ++ (e ∷ []);
         count = length-append t.p (e ∷ []) ∙ omega (arith, t.count);
@@ -110,48 +110,48 @@ module _ (s : List ℕ) (n i : ℕ) (defs : List Extension) (t : Turn s n i defs
             ap (λ l. set l i e) (t.held ∙ ap (λ (m : ℕ). t.p ++ replicate m empty) k)
             ∙ set_at t.p empty (replicate (99 - (i + 1)) empty) e i t.count
             ∙ sym (append_assoc t.p (e ∷ []) (replicate (99 - (i + 1)) empty));
-        left = rw d (sym (behind-one t.p e others)
-            ∙ ap (λ m. defsBehind t.p (bind m (λ e. bind others (λ es. ok (e ∷ es)))))
-            (found_in at (h ∙ ap readExtension part)) ∙ rest);
+        left = rw d (sym (behind_one t.p e others)
+            ∙ ap (λ m. defs_behind t.p (bind m (λ e. bind others (λ es. ok (e ∷ es)))))
+            (found_in at (h ∙ ap read_extension part)) ∙ rest);
       }
 
-held-as : ℕ → List Extension → TableRead
-held-as n defs = record { table = record { defs = defs; count = n }; verdict = Accepted }
+held_as : ℕ → List Extension → TableRead
+held_as n defs = record { table = record { defs = defs; count = n }; verdict = Accepted }
 
-pub turn-done : (s : List ℕ) (n i : ℕ) (defs : List Extension) → Turn s n i defs → n ≤ i →
+pub turn_done : (s : List ℕ) (n i : ℕ) (defs : List Extension) → Turn s n i defs → n ≤ i →
     record { table = record { defs = defs; count = n }; verdict = Accepted }
-    ≡ tableRead (columns 3 (length s) (readDefs n) s)
-unfolding tableRead table_of readDefs defsBehind bind moved held-as
-turn-done s n i defs t end =
+    ≡ table_read (columns 3 (length s) (read_defs n) s)
+unfolding table_read table_of read_defs defs_behind bind moved held_as
+turn_done s n i defs t end =
     let z : n - i ≡ 0 = omega (arith, t.inside) in
     let m : n ≡ length t.p = omega (arith, t.inside, t.count) in
     let r : 99 - i ≡ 99 - length t.p = omega (arith, t.count) in
-    ap (λ (k : ℕ). held-as k defs) m
-    ∙ ap (held-as (length t.p)) (t.held ∙ ap (λ (k : ℕ). t.p ++ replicate k empty) r)
-    ∙ ap tableRead (rw (z, append-nil) at t.left)
+    ap (λ (k : ℕ). held_as k defs) m
+    ∙ ap (held_as (length t.p)) (t.held ∙ ap (λ (k : ℕ). t.p ++ replicate k empty) r)
+    ∙ ap table_read (rw (z, append-nil) at t.left)
 
 -- ---- printing
 
-defs-append : (a b : List Extension) → defsText (a ++ b) ≡ defsText a ++ defsText b
-unfolding defsText
-defs-append [] b = refl
-defs-append (d ∷ a) b = rw (defs-append a b, append_assoc)
+defs_append : (a b : List Extension) → defs_text (a ++ b) ≡ defs_text a ++ defs_text b
+unfolding defs_text
+defs_append [] b = refl
+defs_append (d ∷ a) b = rw (defs_append a b, append_assoc)
 
 -- the first i definitions, and then the next
-pub defs-then : {b b' b'' : List ℕ} {at j k : ℕ} (l : List Extension) (i : ℕ) (d : Extension) → i < length l
-    → Wrote b at (defsText (take i l)) b' j → Wrote b' j (extensionText (get_or l i d)) b'' k
-    → Wrote b at (defsText (take (i + 1) l)) b'' k
-unfolding defsText
-defs-then l i d h p q = rw (add-one, take-suc l i d h, defs-append, append-nil) (then p q)
+pub defs_then : {b b' b'' : List ℕ} {at j k : ℕ} (l : List Extension) (i : ℕ) (d : Extension) → i < length l
+    → Wrote b at (defs_text (take i l)) b' j → Wrote b' j (extension_text (get_or l i d)) b'' k
+    → Wrote b at (defs_text (take (i + 1) l)) b'' k
+unfolding defs_text
+defs_then l i d h p q = rw (add-one, take-suc l i d h, defs_append, append-nil) (then p q)
 
 -- those that count are no more than there are
-pub defs-counted : (l : List Extension) (i n : ℕ) → i ≡ min n (length l) → take i l ≡ take n l
-defs-counted l i n k = by (leb n i) refl
+pub defs_counted : (l : List Extension) (i n : ℕ) → i ≡ min n (length l) → take i l ≡ take n l
+defs_counted l i n k = by (leb n i) refl
   where
     by : (x : Bool) → leb n i ≡ x → take i l ≡ take n l
     by true e = let h = leb-true n i e in let z : i ≡ n = omega arith in rw z
     by false e = let h = leb-false n i e in rw (take_all i l (omega arith), take_all n l (omega arith))
 
 -- the length of an array of structs, for search
-pub long-under : (X Y : Type 0) (f : X → Y) (l : List X) (n : ℕ) → length (map f l) ≡ n → length l ≡ n
-long-under X Y f l n p = sym (length-map l f) ∙ p
+pub long_under : (X Y : Type 0) (f : X → Y) (l : List X) (n : ℕ) → length (map f l) ≡ n → length l ≡ n
+long_under X Y f l n p = sym (length-map l f) ∙ p

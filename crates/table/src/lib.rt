@@ -5,9 +5,9 @@ ghost use Rattle.text.specs.Res.{no};
 ghost use Rattle.text.specs.Line.{columns};
 ghost use Rattle.put.specs.Put.{Wrote};
 ghost use Rattle.print.specs.Print.{Prints};
-ghost use Rattle.table.specs.Table.{table_of, readDefs, isTable, readTable, defsOf, defsText, tableBody};
-ghost use Rattle.table.specs.Table.{tableText};
-ghost use Rattle.table.specs.Table.{tableRead};
+ghost use Rattle.table.specs.Table.{table_of, read_defs, is_table_of, read_table, defs_of, defs_text, table_body};
+ghost use Rattle.table.specs.Table.{table_text};
+ghost use Rattle.table.specs.Table.{table_read};
 
 use extension::{Extension, ExtensionRead};
 use field::{Mnemonic, is_ascii};
@@ -17,20 +17,20 @@ use put::put_byte;
 use text::number::{U8Read, read_u8};
 use text::refusal::Refusal;
 
-#[derive(Drop)]
+#[derive(Clone, Copy)]
 pub struct Table {
     pub defs: [Extension; 99],
     pub count: u8,
 }
 
-#[derive(Drop)]
+#[derive(Clone, Copy)]
 pub enum Verdict {
     Accepted,
     Refused(Refusal),
 }
 
 // The verdict stands beside the table: an enum holds no array.
-#[derive(Drop)]
+#[derive(Clone, Copy)]
 pub struct TableRead {
     pub table: Table,
     pub verdict: Verdict,
@@ -45,7 +45,7 @@ fn at_most_99(n: u8) -> usize
 
 // I or J.
 fn is_table(letter: u8) -> bool
-    ensures { result ≡ isTable letter }
+    ensures { result ≡ is_table_of letter }
 {
     if letter == b'I' {
         return true;
@@ -70,7 +70,7 @@ impl Table {
     }
 
     fn refused(n: Refusal) -> TableRead
-        ensures { result ≡ tableRead (no n) }
+        ensures { result ≡ table_read (no n) }
     {
         let table = Table::new();
         TableRead {
@@ -82,7 +82,7 @@ impl Table {
     // The n definitions of a line, in turn.
     fn parse_defs(line: &[u8], n: u8) -> TableRead
         requires { (n ≤ 99) × (length line.now ≡ 3 + 7 * n) }
-        ensures { result ≡ tableRead (columns 3 (length line.now) (readDefs n) line.now) }
+        ensures { result ≡ table_read (columns 3 (length line.now) (read_defs n) line.now) }
     {
         let none = Table::new();
         let mut table = none;
@@ -113,7 +113,7 @@ impl Table {
 
     // The definitions of an I or a J line.
     pub fn parse(line: &[u8]) -> TableRead
-        ensures { result ≡ tableRead (readTable line.now) }
+        ensures { result ≡ table_read (read_table line.now) }
     {
         if line.len() < 3 {
             return Table::refused(Refusal::Syntax);
@@ -137,7 +137,7 @@ impl Table {
 
     // The definitions that count, one after the other.
     fn put_defs(self, buf: &mut [u8], at: usize) -> usize
-        ensures { Wrote buf.old at (defsText (defsOf self)) buf.new result }
+        ensures { Wrote buf.old at (defs_text (defs_of self)) buf.new result }
     {
         let n = at_most_99(self.count);
         let mut next = at;
@@ -152,7 +152,7 @@ impl Table {
 
     // The text as a piece of a larger one, from a place on; bytes that are too short cut it.
     pub fn put_piece(self, buf: &mut [u8], at: usize, letter: u8) -> usize
-        ensures { Wrote buf.old at (tableBody letter self) buf.new result }
+        ensures { Wrote buf.old at (table_body letter self) buf.new result }
     {
         let at_count = put_byte(buf, at, letter);
         let at_first = put_nat(buf, at_count, self.count as u64, 2);
@@ -161,7 +161,7 @@ impl Table {
 
     // Prints an I or a J line.
     pub fn print(self, letter: u8, buf: &mut [u8]) -> Printed
-        ensures { Prints (tableText letter self) buf.old buf.new result }
+        ensures { Prints (table_text letter self) buf.old buf.new result }
     {
         if 99 < self.count {
             return Printed::Refused(Refusal::BadExtension);

@@ -7,72 +7,72 @@ use mathlib.Core.Logic.{inl, inr}
 use denote.Enum.Declared.{tag_of}
 use types.Run.{OneOf}
 use Rattle.c_turnpoint_record.specs.declared.CRecordTurnpoint.{CRecordTurnpoint}
-use Rattle.log.specs.Log.{chunks, readFrom, readings}
-use Rattle.task_line.specs.Lines.{TaskLine, line_of, taskLines, Sees}
+use Rattle.igc_log.specs.Log.{chunks, read_from, readings}
+use Rattle.task_line.specs.Lines.{TaskLine, line_of, task_lines, Sees}
 use Rattle.task_line.specs.declared.{Kind.Kind, Seen.Seen}
 use Rattle.task_line.specs.contracts.Kind.{the_type}
-use Rattle.task.specs.Sheet.{missing, declared, firstDeclaration, arePoints}
+use Rattle.task.specs.Sheet.{missing, declared, first_declaration, are_points_of}
 
 -- past the end no line is left
-none-past : (s : List ℕ) (p : ℕ) → length s ≤ p → taskLines (drop p s) ≡ []
-unfolding taskLines readings readFrom chunks
-none-past s p h = rw (drop_of_length-le s h)
+none_past : (s : List ℕ) (p : ℕ) → length s ≤ p → task_lines (drop p s) ≡ []
+unfolding task_lines readings read_from chunks
+none_past s p h = rw (drop_of_length-le s h)
 
 -- ---- the first declaration
 
 -- a line that is none is passed
 passed : (k : Kind) (l : List ℕ) (ls : List TaskLine) → OneOf (1 ∷ 2 ∷ []) (tag_of the_type k) →
-    firstDeclaration ls ≡ firstDeclaration (line_of k l ∷ ls)
-unfolding firstDeclaration line_of
+    first_declaration ls ≡ first_declaration (line_of k l ∷ ls)
+unfolding first_declaration line_of
 passed (Kind.Declaration count) l ls (inl h) = absurd (omega arith)
 passed (Kind.Declaration count) l ls (inr h) = absurd (omega arith)
 passed (Kind.Point r) l ls h = refl
 passed Kind.Other l ls h = refl
 
 module _ (s : List ℕ) (p : ℕ) where
-  pub no-declaration : length s ≤ p → missing ≡ firstDeclaration (taskLines (drop p s))
-  unfolding firstDeclaration
-  no-declaration h = rw (none-past s p h)
+  pub no_declaration : length s ≤ p → missing ≡ first_declaration (task_lines (drop p s))
+  unfolding first_declaration
+  no_declaration h = rw (none_past s p h)
 
   module _ {x : Seen} (a : Sees s p x) (h : p < length s) where
-    pub declared-here : {count : ℤ} → x.kind ≡ Kind.Declaration count →
-        declared count (taskLines (drop x.next s)) ≡ firstDeclaration (taskLines (drop p s))
-    unfolding firstDeclaration line_of
-    declared-here j = rw (a.first h, j)
+    pub declared_here : {count : ℤ} → x.kind ≡ Kind.Declaration count →
+        declared count (task_lines (drop x.next s)) ≡ first_declaration (task_lines (drop p s))
+    unfolding first_declaration line_of
+    declared_here j = rw (a.first h, j)
 
-    pub declared-later : OneOf (1 ∷ 2 ∷ []) (tag_of the_type x.kind) →
-        firstDeclaration (taskLines (drop x.next s)) ≡ firstDeclaration (taskLines (drop p s))
-    declared-later j = rw (a.first h) (passed x.kind _ _ j)
+    pub declared_later : OneOf (1 ∷ 2 ∷ []) (tag_of the_type x.kind) →
+        first_declaration (task_lines (drop x.next s)) ≡ first_declaration (task_lines (drop p s))
+    declared_later j = rw (a.first h) (passed x.kind _ _ j)
 
 -- ---- points
 
 -- a line that is none interrupts them
 interrupted : (n : ℕ) (k : Kind) (l : List ℕ) (ls : List TaskLine) → OneOf (0 ∷ 2 ∷ []) (tag_of the_type k) →
-    false ≡ arePoints (suc n) (line_of k l ∷ ls)
-unfolding arePoints line_of
+    false ≡ are_points_of (suc n) (line_of k l ∷ ls)
+unfolding are_points_of line_of
 interrupted n (Kind.Declaration count) l ls h = refl
 interrupted n (Kind.Point r) l ls (inl h) = absurd (omega arith)
 interrupted n (Kind.Point r) l ls (inr h) = absurd (omega arith)
 interrupted n Kind.Other l ls h = refl
 
-pub all-points : (n : ℕ) (ls : List TaskLine) → n ≡ 0 → true ≡ arePoints n ls
-unfolding arePoints
-all-points n ls h = rw h
+pub all_points : (n : ℕ) (ls : List TaskLine) → n ≡ 0 → true ≡ are_points_of n ls
+unfolding are_points_of
+all_points n ls h = rw h
 
 module _ (s : List ℕ) (p : ℕ) where
-  pub too_few : (n : ℕ) → 0 < n → length s ≤ p → false ≡ arePoints n (taskLines (drop p s))
-  unfolding arePoints
+  pub too_few : (n : ℕ) → 0 < n → length s ≤ p → false ≡ are_points_of n (task_lines (drop p s))
+  unfolding are_points_of
   too_few zero h q = absurd (omega arith)
-  too_few (suc n) h q = rw (none-past s p q)
+  too_few (suc n) h q = rw (none_past s p q)
 
   module _ {x : Seen} (a : Sees s p x) (h : p < length s) where
-    pub no-point : (n : ℕ) → 0 < n → OneOf (0 ∷ 2 ∷ []) (tag_of the_type x.kind) →
-        false ≡ arePoints n (taskLines (drop p s))
-    no-point zero m j = absurd (omega arith)
-    no-point (suc n) m j = rw (a.first h) (interrupted n x.kind _ _ j)
+    pub no_point : (n : ℕ) → 0 < n → OneOf (0 ∷ 2 ∷ []) (tag_of the_type x.kind) →
+        false ≡ are_points_of n (task_lines (drop p s))
+    no_point zero m j = absurd (omega arith)
+    no_point (suc n) m j = rw (a.first h) (interrupted n x.kind _ _ j)
 
     pub a_point : (n : ℕ) {r : CRecordTurnpoint} → 0 < n → x.kind ≡ Kind.Point r →
-        arePoints (n - 1) (taskLines (drop x.next s)) ≡ arePoints n (taskLines (drop p s))
-    unfolding arePoints line_of
+        are_points_of (n - 1) (task_lines (drop x.next s)) ≡ are_points_of n (task_lines (drop p s))
+    unfolding are_points_of line_of
     a_point zero m j = absurd (omega arith)
     a_point (suc n) m j = let z : suc n - 1 ≡ n = omega arith in rw (z, a.first h, j)

@@ -1,8 +1,8 @@
 -- A task's sheet, what a printer of it answers, and what that leaves in the lent bytes.
 use Rattle.text.specs.Prelude.{ℕ, zero, suc, ◌+◌, ◌≡◌, Bool, true, false, List, [], ◌∷◌, ◌++◌, length, drop, pick}
 use Rattle.text.specs.Prelude.{ℤ, pos, negsuc, ◌≤?◌}
-use Rattle.task_line.specs.Lines.{TaskLine, declaration, point, other, taskLines}
-use Rattle.task_text.specs.Points.{pointsText}
+use Rattle.task_line.specs.Lines.{TaskLine, declaration, point, other, task_lines}
+use Rattle.task_text.specs.Points.{points_text}
 use Rattle.task.specs.declared.{lines.Declared.Declared, points.Size.Size}
 use Rattle.task.specs.declared.{TaskRefusal.TaskRefusal, TaskPrinted.TaskPrinted}
 use Rattle.task.specs.declared.TaskRefusal.TheVariants.{NoDeclaration, NegativeCount, Interrupted, NoRoom}
@@ -16,19 +16,19 @@ pub data Task : Type 0 where
   declared : ℤ → List TaskLine → Task
 
 -- The first declaration among some lines.
-unfoldable pub firstDeclaration : List TaskLine → Task
-firstDeclaration [] = missing
-firstDeclaration (declaration count ∷ later) = declared count later
-firstDeclaration (point r line ∷ later) = firstDeclaration later
-firstDeclaration (other ∷ later) = firstDeclaration later
+unfoldable pub first_declaration : List TaskLine → Task
+first_declaration [] = missing
+first_declaration (declaration count ∷ later) = declared count later
+first_declaration (point r line ∷ later) = first_declaration later
+first_declaration (other ∷ later) = first_declaration later
 
 -- The first k lines are points; no others stand between them.
-unfoldable pub arePoints : ℕ → List TaskLine → Bool
-arePoints zero ls = true
-arePoints (suc k) [] = false
-arePoints (suc k) (declaration count ∷ ls) = false
-arePoints (suc k) (point r line ∷ ls) = arePoints k ls
-arePoints (suc k) (other ∷ ls) = false
+unfoldable pub are_points_of : ℕ → List TaskLine → Bool
+are_points_of zero ls = true
+are_points_of (suc k) [] = false
+are_points_of (suc k) (declaration count ∷ ls) = false
+are_points_of (suc k) (point r line ∷ ls) = are_points_of k ls
+are_points_of (suc k) (other ∷ ls) = false
 
 -- ---- its sheet
 
@@ -38,49 +38,49 @@ pub data Sheet : Type 0 where
   refused : TaskRefusal → Sheet
 
 -- The sheet of k points: 18 where the next k lines are not all points.
-unfoldable pub sheetFrom : List ℕ → ℕ → List TaskLine → Sheet
-sheetFrom labels k ls = pick (arePoints k ls) (sheet (pointsText labels 1 k ls)) (refused Interrupted)
+unfoldable pub sheet_from : List ℕ → ℕ → List TaskLine → Sheet
+sheet_from labels k ls = pick (are_points_of k ls) (sheet (points_text labels 1 k ls)) (refused Interrupted)
 
 -- No declaration is 16, a negative count 17; then takeoff, start, as many turns as the count says, finish and landing.
-unfoldable pub sheetAfter : List ℕ → Task → Sheet
-sheetAfter labels missing = refused NoDeclaration
-sheetAfter labels (declared (negsuc k) later) = refused NegativeCount
-sheetAfter labels (declared (pos count) later) = sheetFrom labels (count + 4) later
+unfoldable pub sheet_after : List ℕ → Task → Sheet
+sheet_after labels missing = refused NoDeclaration
+sheet_after labels (declared (negsuc k) later) = refused NegativeCount
+sheet_after labels (declared (pos count) later) = sheet_from labels (count + 4) later
 
 -- The sheet of a log beside the club's labels.
-unfoldable pub sheetOf : List ℕ → List ℕ → Sheet
-sheetOf log labels = sheetAfter labels (firstDeclaration (taskLines log))
+unfoldable pub sheet_of : List ℕ → List ℕ → Sheet
+sheet_of log labels = sheet_after labels (first_declaration (task_lines log))
 
 -- ---- printing it
 
 -- The length written; the sheet's own refusal first, then 10 exactly where it is longer than the bytes lent.
-unfoldable pub answerTo : Sheet → List ℕ → TaskPrinted
-answerTo (sheet t) b = pick (length t ≤? length b) (Written (length t)) (Refused NoRoom)
-answerTo (refused n) b = Refused n
+unfoldable pub answer_to : Sheet → List ℕ → TaskPrinted
+answer_to (sheet t) b = pick (length t ≤? length b) (Written (length t)) (Refused NoRoom)
+answer_to (refused n) b = Refused n
 
 -- The bytes afterwards: the sheet and then what stood behind it; a refused call changes nothing.
-unfoldable pub leftBy : Sheet → List ℕ → List ℕ
-leftBy (sheet t) b = pick (length t ≤? length b) (t ++ drop (length t) b) b
-leftBy (refused n) b = b
+unfoldable pub left_by : Sheet → List ℕ → List ℕ
+left_by (sheet t) b = pick (length t ≤? length b) (t ++ drop (length t) b) b
+left_by (refused n) b = b
 
 -- A printer of a sheet answers r and leaves b' where b was lent.
 pub record PrintsSheet (m : Sheet) (b b' : List ℕ) (r : TaskPrinted) : Type 0 where
-  pub answer : r ≡ answerTo m b
-  pub left : b' ≡ leftBy m b
+  pub answer : r ≡ answer_to m b
+  pub left : b' ≡ left_by m b
 
 -- The number that the papers give a refusal.
-abbrev pub taskNumber : TaskRefusal → ℕ
-taskNumber NoDeclaration = 16
-taskNumber NegativeCount = 17
-taskNumber Interrupted = 18
-taskNumber NoRoom = 10
+abbrev pub task_number : TaskRefusal → ℕ
+task_number NoDeclaration = 16
+task_number NegativeCount = 17
+task_number Interrupted = 18
+task_number NoRoom = 10
 
 -- ---- the answers of the code
 
 -- A declaration's count, and the lines from the next place on.
-abbrev pub declaredIn : List ℕ → Declared → Task
-declaredIn log Declared.Missing = missing
-declaredIn log (Declared.At count next) = declared count (taskLines (drop next log))
+abbrev pub declared_in : List ℕ → Declared → Task
+declared_in log Declared.Missing = missing
+declared_in log (Declared.At count next) = declared count (task_lines (drop next log))
 
 -- How many points a count asks for.
 unfoldable pub size_of : ℤ → Size

@@ -3,8 +3,8 @@ mod lines;
 mod points;
 
 ghost use Rattle.std.specs.Prelude.{◌≡◌, drop};
-ghost use Rattle.task_line.specs.Lines.{taskLines};
-ghost use Rattle.task.specs.Sheet.{sheetOf, sheetFrom, taskNumber, PrintsSheet};
+ghost use Rattle.task_line.specs.Lines.{task_lines};
+ghost use Rattle.task.specs.Sheet.{sheet_of, sheet_from, task_number, PrintsSheet};
 
 use crate::lines::{Declared, find_declaration};
 use crate::points::{Size, are_points, size_of};
@@ -12,7 +12,7 @@ use task_text::put_points;
 
 // Why there is no sheet: no declaration, a negative count, points that are too few or interrupted, or lent bytes that
 // are too short.
-#[derive(Drop)]
+#[derive(Clone, Copy)]
 pub enum TaskRefusal {
     NoDeclaration,
     NegativeCount,
@@ -21,7 +21,7 @@ pub enum TaskRefusal {
 }
 
 // The length written, or the refusal.
-#[derive(Drop)]
+#[derive(Clone, Copy)]
 pub enum TaskPrinted {
     Written(usize),
     Refused(TaskRefusal),
@@ -30,7 +30,7 @@ pub enum TaskPrinted {
 impl TaskRefusal {
     // The number that the papers give it.
     pub fn number(self) -> u8
-        ensures { result ≡ taskNumber self }
+        ensures { result ≡ task_number self }
     {
         match self {
             TaskRefusal::NoDeclaration => 16,
@@ -50,7 +50,7 @@ fn print_points<'a>(
     buf: &mut [u8],
 ) -> TaskPrinted
     ensures { PrintsSheet
-        (sheetFrom labels.now points (taskLines (drop from log.now)))
+        (sheet_from labels.now points (task_lines (drop from log.now)))
         buf.old buf.new result }
 {
     if !are_points(log, from, points) {
@@ -65,7 +65,7 @@ fn print_points<'a>(
 // Prints the sheet of a log, its points without a name labelled by the lines of `labels`. Where there is no sheet, or
 // no room for it, the lent bytes stay as they were.
 pub fn print_task<'a>(log: &'a [u8], labels: &'a [u8], buf: &mut [u8]) -> TaskPrinted
-    ensures { PrintsSheet (sheetOf log.now labels.now)
+    ensures { PrintsSheet (sheet_of log.now labels.now)
         buf.old buf.new result }
 {
     match find_declaration(log, 0) {

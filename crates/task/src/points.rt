@@ -1,12 +1,12 @@
 // The points of a task: how many there are, and whether the lines are points.
 ghost use Rattle.std.specs.Prelude.{◌≡◌, drop};
-ghost use Rattle.task_line.specs.Lines.{taskLines};
-ghost use Rattle.task.specs.Sheet.{arePoints, size_of};
+ghost use Rattle.task_line.specs.Lines.{task_lines};
+ghost use Rattle.task.specs.Sheet.{are_points_of, size_of};
 
 use task_line::{Kind, line_at};
 
 // How many points a count asks for.
-#[derive(Drop)]
+#[derive(Clone, Copy)]
 pub enum Size {
     Negative,
     Points(usize),
@@ -24,7 +24,7 @@ pub(crate) fn size_of(count: i8) -> Size
 
 // Whether the lines from a place on are points, as many as that.
 pub(crate) fn are_points(log: &[u8], from: usize, points: usize) -> bool
-    ensures { result ≡ arePoints points (taskLines (drop from log.now)) }
+    ensures { result ≡ are_points_of points (task_lines (drop from log.now)) }
 {
     let mut place = from;
     let mut left = points;

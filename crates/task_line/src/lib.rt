@@ -1,7 +1,7 @@
 // What the lines of a log are to a task: declarations, turnpoints and others.
 ghost use Rattle.std.specs.Prelude.{◌≡◌};
-ghost use Rattle.records.specs.Record.{readingRes};
-ghost use Rattle.task_line.specs.Lines.{recordKind, answerKind, Sees};
+ghost use Rattle.records.specs.Record.{reading_res};
+ghost use Rattle.task_line.specs.Lines.{record_kind, answer_kind, Sees};
 
 use ahead::cut_ahead;
 use c_turnpoint_record::CRecordTurnpoint;
@@ -9,7 +9,7 @@ use part::Part;
 use records::{Reading, Record};
 
 // What a line is to a task.
-#[derive(Drop)]
+#[derive(Clone, Copy)]
 pub enum Kind {
     Declaration(i8),
     Point(CRecordTurnpoint),
@@ -17,7 +17,7 @@ pub enum Kind {
 }
 
 // What the line at a place is, which part of the log, and the place after it.
-#[derive(Drop)]
+#[derive(Clone, Copy)]
 pub struct Seen {
     pub kind: Kind,
     pub line: Part,
@@ -25,7 +25,7 @@ pub struct Seen {
 }
 
 fn kind_of_record(found: Record) -> Kind
-    ensures { result ≡ recordKind found }
+    ensures { result ≡ record_kind found }
 {
     match found {
         Record::CDeclaration(task) => Kind::Declaration(task.turnpoint_count),
@@ -47,7 +47,7 @@ fn kind_of_record(found: Record) -> Kind
 
 // What a line with that reading is.
 fn kind_of(reading: Reading) -> Kind
-    ensures { result ≡ answerKind (readingRes reading) }
+    ensures { result ≡ answer_kind (reading_res reading) }
 {
     match reading {
         Reading::Accepted(found) => kind_of_record(found),

@@ -1,8 +1,8 @@
 // The points of a task as text, a line each.
 ghost use Rattle.std.specs.Prelude.{◌≡◌, drop};
 ghost use Rattle.put.specs.Put.{Wrote};
-ghost use Rattle.task_line.specs.Lines.{line_of, taskLines};
-ghost use Rattle.task_text.specs.Points.{pointText, pointsText};
+ghost use Rattle.task_line.specs.Lines.{line_of, task_lines};
+ghost use Rattle.task_text.specs.Points.{point_text, points_text};
 
 use caption::caption;
 use put::{put_byte, put_bytes};
@@ -17,7 +17,7 @@ fn put_point<'a>(
     labels: &'a [u8],
     n: usize,
 ) -> usize
-    ensures { Wrote buf.old at (pointText labels.now n (line_of kind line.now))
+    ensures { Wrote buf.old at (point_text labels.now n (line_of kind line.now))
         buf.new result }
 {
     let Kind::Point(point) = kind else {
@@ -41,7 +41,7 @@ pub fn put_points<'a>(
     points: usize,
 ) -> usize
     ensures { Wrote buf.old at
-        (pointsText labels.now 1 points (taskLines (drop from log.now)))
+        (points_text labels.now 1 points (task_lines (drop from log.now)))
         buf.new result }
 {
     let mut end = at;

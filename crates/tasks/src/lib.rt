@@ -2,7 +2,7 @@
 ghost use Rattle.std.specs.Prelude.{◌≡◌, length};
 ghost use Rattle.put.specs.Put.{Wrote};
 ghost use Rattle.files.specs.Input.{FilledBehind, Within};
-ghost use Rattle.tasks.specs.Answer.{words_of, refusalText, wholeIn, sheetIn, Answers};
+ghost use Rattle.tasks.specs.Answer.{words_of, refusal_text, whole_in, sheet_in, Answers};
 
 use files::input::{Filled, is_dash, open, read_on};
 use files::output::write_all;
@@ -12,14 +12,14 @@ use put::{put_byte, put_bytes};
 use task::{TaskPrinted, TaskRefusal, print_task};
 
 // The sheet printed or refused; nothing where a file could not be read whole.
-#[derive(Drop)]
+#[derive(Clone, Copy)]
 enum Answer {
     Printed(TaskPrinted),
     Nothing,
 }
 
 // A file that was read to its end, by its length; or none.
-#[derive(Drop)]
+#[derive(Clone, Copy)]
 enum Whole {
     Bytes(usize),
     Missing,
@@ -59,7 +59,7 @@ fn put_words(buf: &mut [u8], at: usize, no: TaskRefusal) -> usize
 
 // The number of a refusal, and its words.
 fn put_refusal(buf: &mut [u8], at: usize, no: TaskRefusal) -> usize
-    ensures { Wrote buf.old at (refusalText no) buf.new result }
+    ensures { Wrote buf.old at (refusal_text no) buf.new result }
 {
     let at_number = put_bytes(buf, at, b"task: ");
     let at_comma = put_nat(buf, at_number, no.number() as u64, 1);
@@ -70,7 +70,7 @@ fn put_refusal(buf: &mut [u8], at: usize, no: TaskRefusal) -> usize
 
 // How many bytes a file has that was read to its end. Full bytes may not be all, and a failed read has none to go by.
 fn length_read(filled: Filled) -> Whole
-    ensures { result ≡ wholeIn filled }
+    ensures { result ≡ whole_in filled }
 {
     match filled {
         Filled::Ended(n) => Whole::Bytes(n),
@@ -89,7 +89,7 @@ fn answer_of<'a>(
 ) -> Answer
     requires { Within filled log.now × Within labelled labels.now }
     ensures { Answers
-        (sheetIn (wholeIn filled) log.now (wholeIn labelled) labels.now)
+        (sheet_in (whole_in filled) log.now (whole_in labelled) labels.now)
         sheet.old sheet.new result }
 {
     let Whole::Bytes(n) = length_read(filled) else {

@@ -10,9 +10,9 @@ pub use Rattle.text.proofs.Steps.{
   on,
   off,
   found_in,
-  refused-in,
+  refused_in,
   moved_twice,
-  moved-bind,
+  moved_bind,
   pass,
   stop,
   first,
@@ -25,4 +25,4 @@ pub use Rattle.text.proofs.Steps.{
   isnt≤,
   is=,
 }
-pub use Rattle.text.proofs.Steps.{holds, fails, so-true, so_false, both, neither, by-test, never, tested, and}
+pub use Rattle.text.proofs.Steps.{holds, fails, so_true, so_false, both, neither, by_test, never, tested, and}

@@ -6,12 +6,12 @@ unfoldable pub use Rattle.std.proofs.Math.Bool.{not}
 unfoldable pub use mathlib.Core.List.{◌++◌, map}
 unfoldable pub use Rattle.std.proofs.Math.ListN.{length, take, drop, get_or, set, replicate}
 pub use Rattle.std.specs.Borrow.{Bor, MutBor}
-unfoldable pub use denote.Ref.{now}
+
 pub use Rattle.text.specs.Res.{Res, ok, no}
-unfoldable pub use Rattle.text.specs.Res.{bind, moved, guard, pick, number_of, place_of, placed, movedBy, ◌≤?◌}
+unfoldable pub use Rattle.text.specs.Res.{bind, moved, guard, pick, number_of, place_of, placed, moved_by, ◌≤?◌}
 unfoldable pub use Rattle.text.specs.Res.{◌=?◌, ◌∧?◌, ◌∨?◌}
 unfoldable pub use Rattle.text.specs.Line.{LF, CR, byte, cut, columns, begins}
 unfoldable pub use Rattle.text.specs.Word.{largest}
-unfoldable pub use Rattle.text.specs.Number.{readNat, readInt, readDigits, isDigit, allDigits, firstOther, zeros}
+unfoldable pub use Rattle.text.specs.Number.{read_nat_of, read_int_of, read_digits_of, is_digit_of, all_digits_of, first_other_of, zeros}
 unfoldable pub use Rattle.text.specs.Number.{plus}
-unfoldable pub use Rattle.text.specs.Number.{padded, signed, digits, places_of, valueFrom}
+unfoldable pub use Rattle.text.specs.Number.{padded, signed, digits, places_of, value_from}

@@ -4,10 +4,10 @@ use Prim.Native.Char.{code}
 use Prim.Native.String.{String, char_at, len}
 
 -- The characters of a text from a place on, as bytes.
-unfoldable pub speltFrom : ℕ → ℕ → String → List ℕ
-speltFrom zero i s = []
-speltFrom (suc k) i s = code (char_at s i) ∷ speltFrom k (i + 1) s
+unfoldable pub spelt_from : ℕ → ℕ → String → List ℕ
+spelt_from zero i s = []
+spelt_from (suc k) i s = code (char_at s i) ∷ spelt_from k (i + 1) s
 
 -- The bytes of a text.
 unfoldable pub spelt : String → List ℕ
-spelt s = speltFrom (len s) 0 s
+spelt s = spelt_from (len s) 0 s

@@ -1,24 +1,24 @@
 -- What times and dates share: three numbers of two characters each.
-use Rattle.text.specs.Prelude.{ℕ, List, ◌++◌, Res, ok, no, bind, columns, readNat, padded}
+use Rattle.text.specs.Prelude.{ℕ, List, ◌++◌, Res, ok, no, bind, columns, read_nat_of, padded}
 use Rattle.three.specs.declared.{Three.Three, ThreeRead.ThreeRead}
 
 -- Three numbers one after the other, all read before anything is made of them.
-unfoldable pub readThree : {A : Type 0} → (ℕ → ℕ → ℕ → Res A) → List ℕ → Res A
-readThree make s =
-    bind (columns 0 2 (readNat 255) s) (λ a.
-    bind (columns 2 4 (readNat 255) s) (λ b.
-    bind (columns 4 6 (readNat 255) s) (λ c.
+unfoldable pub read_three_of : {A : Type 0} → (ℕ → ℕ → ℕ → Res A) → List ℕ → Res A
+read_three_of make s =
+    bind (columns 0 2 (read_nat_of 255) s) (λ a.
+    bind (columns 2 4 (read_nat_of 255) s) (λ b.
+    bind (columns 4 6 (read_nat_of 255) s) (λ c.
     make a b c)))
 
 -- The same three, each in width 2.
-unfoldable pub threeText : ℕ → ℕ → ℕ → List ℕ
-threeText a b c = padded 2 a ++ (padded 2 b ++ padded 2 c)
+unfoldable pub three_text : ℕ → ℕ → ℕ → List ℕ
+three_text a b c = padded 2 a ++ (padded 2 b ++ padded 2 c)
 
 -- ---- the answers of the code
 
-abbrev pub threeRes : ThreeRead → Res Three
-threeRes (ThreeRead.Ok v) = ok v
-threeRes (ThreeRead.Refused n) = no n
+abbrev pub three_res : ThreeRead → Res Three
+three_res (ThreeRead.Ok v) = ok v
+three_res (ThreeRead.Refused n) = no n
 
 -- The three numbers as the code holds them.
 abbrev pub together : ℕ → ℕ → ℕ → Res Three

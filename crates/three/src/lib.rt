@@ -2,16 +2,16 @@
 ghost use Rattle.std.specs.Prelude.{◌≡◌};
 ghost use Rattle.field.specs.Field.{sized};
 ghost use Rattle.put.specs.Put.{Wrote};
-ghost use Rattle.three.specs.Three.{readThree, threeText, threeRes, together};
+ghost use Rattle.three.specs.Three.{read_three_of, three_text, three_res, together};
 
 use print::number::put_nat;
 use text::number::{U8Read, read_u8};
 use text::refusal::Refusal;
 
-#[derive(Drop)]
+#[derive(Clone, Copy)]
 pub struct Three(pub u8, pub u8, pub u8);
 
-#[derive(Drop)]
+#[derive(Clone, Copy)]
 pub enum ThreeRead {
     Ok(Three),
     Refused(Refusal),
@@ -19,7 +19,7 @@ pub enum ThreeRead {
 
 // Three numbers of two characters, read before any of them is tested.
 pub fn read_three(text: &[u8]) -> ThreeRead
-    ensures { threeRes result ≡ sized 6 (readThree together) text.now }
+    ensures { three_res result ≡ sized 6 (read_three_of together) text.now }
 {
     if text.len() != 6 {
         return ThreeRead::Refused(Refusal::WrongLength);
@@ -40,7 +40,7 @@ pub fn read_three(text: &[u8]) -> ThreeRead
 
 // Three numbers, each in width 2.
 pub fn put_three(buf: &mut [u8], at: usize, a: u8, b: u8, c: u8) -> usize
-    ensures { Wrote buf.old at (threeText a b c) buf.new result }
+    ensures { Wrote buf.old at (three_text a b c) buf.new result }
 {
     let at_second = put_nat(buf, at, a as u64, 2);
     let at_third = put_nat(buf, at_second, b as u64, 2);

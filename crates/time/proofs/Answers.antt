@@ -2,9 +2,9 @@
 use Rattle.text.specs.Prelude.{◌≡◌}
 use Rattle.text.proofs.Prelude.{refl}
 use Rattle.text.proofs.Answers.{made}
-use Rattle.time.specs.Time.{timeRes}
+use Rattle.time.specs.Time.{time_res}
 use Rattle.time.specs.declared.TimeRead.{TimeRead}
 
-pub time-undone : (r : TimeRead) → made TimeRead.Ok TimeRead.Refused (timeRes r) ≡ r
-time-undone (TimeRead.Ok v) = refl
-time-undone (TimeRead.Refused n) = refl
+pub time_undone : (r : TimeRead) → made TimeRead.Ok TimeRead.Refused (time_res r) ≡ r
+time_undone (TimeRead.Ok v) = refl
+time_undone (TimeRead.Refused n) = refl

@@ -1,7 +1,7 @@
 -- What the code makes of two totals, and of a total and one log more, is what the definition makes of them.
 use Rattle.text.specs.Prelude.{ℕ, ◌+◌, ◌≤◌, ◌<◌, ◌≡◌, Bool, true, false, List, length, take, set}
 use Rattle.text.specs.Prelude.{get_or, pick, ◌∧?◌, largest}
-use Rattle.text.proofs.Prelude.{arith, sym, ap, ◌∙◌, take_all, yes≤, holds, fails, by-test}
+use Rattle.text.proofs.Prelude.{arith, sym, ap, ◌∙◌, take_all, yes≤, holds, fails, by_test}
 use native.Mathlib.Numerals.{add-one}
 use lib.ListN.{length-set}
 use lib.Seq.{take-suc, take-suc-set}
@@ -10,15 +10,15 @@ use Rattle.report.specs.Range.{Range, joined}
 use Rattle.report.specs.Figures.{Figures, earlier}
 use Rattle.report.specs.Figures as figures
 use Rattle.report.specs.declared.{pressure.PressurePeak.PressurePeak, gps.GpsPeak.GpsPeak}
-use Rattle.report.proofs.Counts.{getD-added, length-added}
-use Rattle.span.specs.Span.{lowerPressure, lowerGps, mapped, all_fit, laterPressure, laterGps, numbersOf}
+use Rattle.report.proofs.Counts.{get_d_added, length_added}
+use Rattle.span.specs.Span.{lower_pressure, lower_gps, mapped, all_fit, later_pressure, later_gps, numbers_of}
 use Rattle.span.specs.declared.{pressure.PressureSpot.PressureSpot, gps.GpsSpot.GpsSpot}
-use Rattle.total.specs.Total.{Totals, oneLog, addRes, totalFits, laterBy, join_of, joinFits, refused, joinRes}
-use Rattle.total.specs.Total.{sumsRes, Beside, beside}
+use Rattle.total.specs.Total.{Totals, one_log, add_res, total_fits, later_by, join_of, join_fits, refused, join_res}
+use Rattle.total.specs.Total.{sums_res, Beside, beside}
 use Rattle.total.specs.declared.Sums.{Sums}
-use Rattle.total.proofs.Fits.{one-over, set-fit}
-use Rattle.total.proofs.Totals.{add-joins}
-use Rattle.total.proofs.Joining.{counts, logs-split, add-fits}
+use Rattle.total.proofs.Fits.{one_over, set_fit}
+use Rattle.total.proofs.Totals.{add_joins}
+use Rattle.total.proofs.Joining.{counts, logs_split, add_fits_lem}
 
 -- ---- counts
 
@@ -30,96 +30,96 @@ pub record Made (ns ms all : List ℕ) (i : ℕ) : Type 0 where
 
 module _ (ns ms : List ℕ) (i : ℕ) where
   -- the next sum does not fit
-  pub over-here : largest < get_or ns i 0 + get_or ms i 0 → record { counts = ns; fit = false } ≡ sumsRes ns ms
-  unfolding sumsRes pick
-  over-here h = rw (one-over (added ns ms) i (rw (getD-added ns ms i) h))
+  pub over_here : largest < get_or ns i 0 + get_or ms i 0 → record { counts = ns; fit = false } ≡ sums_res ns ms
+  unfolding sums_res pick
+  over_here h = rw (one_over (added ns ms) i (rw (get_d_added ns ms i) h))
 
   module _ (all : List ℕ) (same : length ns ≡ length ms) (made : Made ns ms all i) where
-    pub sum-here : i < length ns → get_or ns i 0 + get_or ms i 0 ≤ largest →
+    pub sum_here : i < length ns → get_or ns i 0 + get_or ms i 0 ≤ largest →
         Made ns ms (set all i (get_or ns i 0 + get_or ms i 0)) (i + 1)
-    sum-here h f =
+    sum_here h f =
         let n = get_or ns i 0 + get_or ms i 0 in
         record {
           wide = length-set all i n ∙ made.wide;
           done = rw (
             add-one,
             take-suc-set all i n (rw made.wide h),
-            take-suc (added ns ms) i 0 (rw (length-added ns ms same) h),
+            take-suc (added ns ms) i 0 (rw (length_added ns ms same) h),
             made.done,
-            getD-added ns ms i,
+            get_d_added ns ms i,
           );
-          fit = set-fit all i n made.fit f;
+          fit = set_fit all i n made.fit f;
         }
 
-    pub sums-made : length ns ≤ i → record { counts = all; fit = true } ≡ sumsRes ns ms
-    unfolding sumsRes pick
-    sums-made h =
+    pub sums_made : length ns ≤ i → record { counts = all; fit = true } ≡ sums_res ns ms
+    unfolding sums_res pick
+    sums_made h =
         let are : all ≡ added ns ms =
         sym (take_all i all (rw made.wide h))
         ∙ made.done
-        ∙ take_all i (added ns ms) (rw (length-added ns ms same) h) in
+        ∙ take_all i (added ns ms) (rw (length_added ns ms same) h) in
         rw (sym are, made.fit)
 
 -- what the code says of its sums
-module _ (ns ms : List ℕ) {sums : Sums} (are : sums ≡ sumsRes ns ms) where
+module _ (ns ms : List ℕ) {sums : Sums} (are : sums ≡ sums_res ns ms) where
   pub fit_is : {b : Bool} → sums.fit ≡ b → all_fit (added ns ms) ≡ b
-  unfolding sumsRes
+  unfolding sums_res
   fit_is h = sym (ap (λ s. s.fit) are) ∙ h
 
-  pub counts-are : sums.fit ≡ true → sums.counts ≡ added ns ms
-  unfolding sumsRes pick
-  counts-are h = ap (λ s. s.counts) are ∙ rw (fit_is h)
+  pub counts_are : sums.fit ≡ true → sums.counts ≡ added ns ms
+  unfolding sums_res pick
+  counts_are h = ap (λ s. s.counts) are ∙ rw (fit_is h)
 
 -- ---- two totals
 
 -- the second test fails
-fails-next : (a : Bool) {b : Bool} → b ≡ false → (a ∧? b) ≡ false
-fails-next a e = by-test a (λ t. holds t e) (λ t. fails _ t)
+fails_next : (a : Bool) {b : Bool} → b ≡ false → (a ∧? b) ≡ false
+fails_next a e = by_test a (λ t. holds t e) (λ t. fails _ t)
 
 module _ (a b : Totals) where
   abbrev sums : List ℕ
   sums = added a.figures.answers b.figures.answers
 
   abbrev later : Range PressureSpot
-  later = mapped (laterPressure a.logs) b.figures.pressure
+  later = mapped (later_pressure a.logs) b.figures.pressure
 
-  abbrev later-gps : Range GpsSpot
-  later-gps = mapped (laterGps a.logs) b.figures.gps
+  abbrev later_gps_lem : Range GpsSpot
+  later_gps_lem = mapped (later_gps a.logs) b.figures.gps
 
-  pub count-over : (i : ℕ) → largest < get_or (counts (join_of a b)) i 0 → joinFits a b ≡ false
-  unfolding joinFits totalFits
-  count-over i h = fails _ (one-over (counts (join_of a b)) i h)
+  pub count_over : (i : ℕ) → largest < get_or (counts (join_of a b)) i 0 → join_fits a b ≡ false
+  unfolding join_fits total_fits
+  count_over i h = fails _ (one_over (counts (join_of a b)) i h)
 
-  pub answers-over : all_fit sums ≡ false → joinFits a b ≡ false
-  unfolding joinFits totalFits join_of figures.both laterBy all_fit
-  answers-over e = fails _ (fails-next _ (fails-next _ (fails-next _ e)))
+  pub answers_over : all_fit sums ≡ false → join_fits a b ≡ false
+  unfolding join_fits total_fits join_of figures.both later_by all_fit
+  answers_over e = fails _ (fails_next _ (fails_next _ (fails_next _ e)))
 
-  pub pressure-over : all_fit (numbersOf (λ s. s.log) later) ≡ false → joinFits a b ≡ false
-  unfolding joinFits laterBy
-  pressure-over e = fails-next _ (logs-split (laterBy a.logs b.figures) ∙ fails _ e)
+  pub pressure_over_lem : all_fit (numbers_of (λ s. s.log) later) ≡ false → join_fits a b ≡ false
+  unfolding join_fits later_by
+  pressure_over_lem e = fails_next _ (logs_split (later_by a.logs b.figures) ∙ fails _ e)
 
-  pub gps-over : all_fit (numbersOf (λ s. s.log) later-gps) ≡ false → joinFits a b ≡ false
-  unfolding joinFits laterBy
-  gps-over e = fails-next _ (logs-split (laterBy a.logs b.figures) ∙ fails-next _ e)
+  pub gps_over_lem : all_fit (numbers_of (λ s. s.log) later_gps_lem) ≡ false → join_fits a b ≡ false
+  unfolding join_fits later_by
+  gps_over_lem e = fails_next _ (logs_split (later_by a.logs b.figures) ∙ fails_next _ e)
 
   pub all_in : a.logs + b.logs ≤ largest → a.figures.lines + b.figures.lines ≤ largest →
       a.figures.fixes + b.figures.fixes ≤ largest → all_fit sums ≡ true →
-      all_fit (numbersOf (λ s. s.log) later) ≡ true → all_fit (numbersOf (λ s. s.log) later-gps) ≡ true →
-      joinFits a b ≡ true
-  unfolding joinFits totalFits join_of figures.both laterBy all_fit
+      all_fit (numbers_of (λ s. s.log) later) ≡ true → all_fit (numbers_of (λ s. s.log) later_gps_lem) ≡ true →
+      join_fits a b ≡ true
+  unfolding join_fits total_fits join_of figures.both later_by all_fit
   all_in logs lines fixes answers pressure gps =
       holds (holds (yes≤ logs) (holds (yes≤ lines) (holds (yes≤ fixes) answers)))
-      (logs-split (laterBy a.logs b.figures) ∙ holds pressure gps)
+      (logs_split (later_by a.logs b.figures) ∙ holds pressure gps)
 
-  pub too_large : joinFits a b ≡ false → beside (refused 21) ≡ beside (joinRes a b)
-  unfolding joinRes pick
+  pub too_large : join_fits a b ≡ false → beside (refused 21) ≡ beside (join_res a b)
+  unfolding join_res pick
   too_large e = rw e
 
   pub joins : {answers : List ℕ} {pressure : Range PressureSpot} {gps : Range GpsSpot} {times : Range ℕ} →
-      joinFits a b ≡ true →
+      join_fits a b ≡ true →
       answers ≡ sums →
-      pressure ≡ joined lowerPressure a.figures.pressure later →
-      gps ≡ joined lowerGps a.figures.gps later-gps →
+      pressure ≡ joined lower_pressure a.figures.pressure later →
+      gps ≡ joined lower_gps a.figures.gps later_gps_lem →
       times ≡ joined earlier a.figures.times b.figures.times →
       record {
         number = 0;
@@ -134,26 +134,26 @@ module _ (a b : Totals) where
             times = times;
           };
         };
-      } ≡ beside (joinRes a b)
-  unfolding beside joinRes join_of figures.both laterBy pick
+      } ≡ beside (join_res a b)
+  unfolding beside join_res join_of figures.both later_by pick
   joins fits are pressures gpses these = rw (fits, are, pressures, gpses, these)
 
 -- ---- one log more
 
 module _ (t : Totals) (f : Figures PressurePeak GpsPeak) {u : Totals} where
-  pub log-added : record { number = 0; total = u } ≡ beside (joinRes t (oneLog f)) →
-      record { total = u; fits = true } ≡ addRes t f
-  unfolding addRes beside joinRes pick
-  log-added e =
-      by-test (joinFits t (oneLog f))
-      (λ h. rw (sym (add-fits t f), h, add-joins t f)
+  pub log_added : record { number = 0; total = u } ≡ beside (join_res t (one_log f)) →
+      record { total = u; fits = true } ≡ add_res t f
+  unfolding add_res beside join_res pick
+  log_added e =
+      by_test (join_fits t (one_log f))
+      (λ h. rw (sym (add_fits_lem t f), h, add_joins t f)
       (ap (λ (b : Beside). record { total = b.total; fits = true }) (rw h at e)))
       (λ h. absurd (omega (arith, ap (λ (b : Beside). b.number) (rw h at e))))
 
-  pub log-stays : record { number = 21; total = u } ≡ beside (joinRes t (oneLog f)) →
-      record { total = t; fits = false } ≡ addRes t f
-  unfolding addRes beside joinRes pick
-  log-stays e =
-      by-test (joinFits t (oneLog f))
+  pub log_stays : record { number = 21; total = u } ≡ beside (join_res t (one_log f)) →
+      record { total = t; fits = false } ≡ add_res t f
+  unfolding add_res beside join_res pick
+  log_stays e =
+      by_test (join_fits t (one_log f))
       (λ h. absurd (omega (arith, ap (λ (b : Beside). b.number) (rw h at e))))
-      (λ h. rw (sym (add-fits t f), h))
+      (λ h. rw (sym (add_fits_lem t f), h))

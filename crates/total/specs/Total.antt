@@ -1,14 +1,14 @@
 -- The total of some logs: each figure by itself over the readings of all of them in order, and a log at a time.
 use Rattle.text.specs.Prelude.{ℕ, ◌+◌, Bool, List, [], ◌∷◌, ◌++◌, map, length, Res, pick, ◌∧?◌}
 use Rattle.records.specs.declared.Record.{Record}
-use Rattle.log.specs.Log.{LineRead}
+use Rattle.igc_log.specs.Log.{LineRead}
 use Rattle.report.specs.Range.{range_of}
-use Rattle.report.specs.Counts.{byNumber, summed, added}
+use Rattle.report.specs.Counts.{by_number, summed, added}
 use Rattle.report.specs.Figures.{Figures, earlier, empty, both}
-use Rattle.report.specs.Report.{answeredWith, fixesOf, shown, pressureAt, gpsAt, timeAt, timesIn}
+use Rattle.report.specs.Report.{answered_with, fixes_of, shown, pressure_at, gps_at, time_at, times_in}
 use Rattle.report.specs.declared.{pressure.PressurePeak.PressurePeak, gps.GpsPeak.GpsPeak}
-use Rattle.span.specs.Span.{pressureSpot, gpsSpot, lowerPressure, lowerGps, mapped, laterPressure, laterGps, all_fit}
-use Rattle.span.specs.Span.{numbersOf, pressureOver, gpsOver}
+use Rattle.span.specs.Span.{pressure_spot, gps_spot, lower_pressure, lower_gps, mapped, later_pressure, later_gps, all_fit}
+use Rattle.span.specs.Span.{numbers_of, pressure_over, gps_over}
 use Rattle.span.specs.declared.{pressure.PressureSpot.PressureSpot, gps.GpsSpot.GpsSpot}
 use Rattle.total.specs.declared.{Total.Total, Added.Added, Sums.Sums, Verdict.Verdict, Joined.Joined}
 
@@ -20,9 +20,9 @@ pub record Totals : Type 0 where
 -- ---- some logs
 
 -- What f shows of each log and its number, in order; the first has the number n.
-unfoldable pub inOrder : {L X : Type 0} → (ℕ → L → List X) → ℕ → List L → List X
-inOrder f n [] = []
-inOrder f n (xs ∷ logs) = f n xs ++ inOrder f (n + 1) logs
+unfoldable pub in_order : {L X : Type 0} → (ℕ → L → List X) → ℕ → List L → List X
+in_order f n [] = []
+in_order f n (xs ∷ logs) = f n xs ++ in_order f (n + 1) logs
 
 -- Some logs, each as its readings.
 abbrev pub Logs : Type 0 → Type 0
@@ -30,16 +30,16 @@ Logs T = List (List (LineRead (Res Record) T))
 
 module _ {T : Type 0} where
   -- The pressure heights of the log n.
-  unfoldable pub pressureShown : ℕ → List (LineRead (Res Record) T) → List PressureSpot
-  pressureShown n xs = map (pressureSpot n) (shown pressureAt xs)
+  unfoldable pub pressure_shown : ℕ → List (LineRead (Res Record) T) → List PressureSpot
+  pressure_shown n xs = map (pressure_spot n) (shown pressure_at xs)
 
   -- The GPS heights of the log n.
-  unfoldable pub gpsShown : ℕ → List (LineRead (Res Record) T) → List GpsSpot
-  gpsShown n xs = map (gpsSpot n) (shown gpsAt xs)
+  unfoldable pub gps_shown : ℕ → List (LineRead (Res Record) T) → List GpsSpot
+  gps_shown n xs = map (gps_spot n) (shown gps_at xs)
 
   -- The times of a log, whatever its number.
-  unfoldable pub timeShown : ℕ → List (LineRead (Res Record) T) → List ℕ
-  timeShown n xs = shown timeAt xs
+  unfoldable pub time_shown : ℕ → List (LineRead (Res Record) T) → List ℕ
+  time_shown n xs = shown time_at xs
 
   -- Their total; the first log has the number 1.
   unfoldable pub total_of : Logs T → Totals
@@ -47,49 +47,49 @@ module _ {T : Type 0} where
     logs = length logs;
     figures = record {
       lines = summed (map length logs);
-      answers = byNumber (λ n. summed (map (answeredWith n) logs));
-      fixes = summed (map fixesOf logs);
-      pressure = range_of lowerPressure (inOrder pressureShown 1 logs);
-      gps = range_of lowerGps (inOrder gpsShown 1 logs);
-      times = range_of earlier (inOrder timeShown 1 logs);
+      answers = by_number (λ n. summed (map (answered_with n) logs));
+      fixes = summed (map fixes_of logs);
+      pressure = range_of lower_pressure (in_order pressure_shown 1 logs);
+      gps = range_of lower_gps (in_order gps_shown 1 logs);
+      times = range_of earlier (in_order time_shown 1 logs);
     };
   }
 
 -- ---- a log at a time
 
 -- The total of no logs.
-unfoldable pub noLogs : Totals
-noLogs = record { logs = 0; figures = empty }
+unfoldable pub no_logs : Totals
+no_logs = record { logs = 0; figures = empty }
 
 -- A log's report, its heights at places of the log n.
-unfoldable pub inLog : ℕ → Figures PressurePeak GpsPeak → Figures PressureSpot GpsSpot
-inLog n f = record {
+unfoldable pub in_log_of : ℕ → Figures PressurePeak GpsPeak → Figures PressureSpot GpsSpot
+in_log_of n f = record {
   lines = f.lines;
   answers = f.answers;
   fixes = f.fixes;
-  pressure = mapped (pressureSpot n) f.pressure;
-  gps = mapped (gpsSpot n) f.gps;
+  pressure = mapped (pressure_spot n) f.pressure;
+  gps = mapped (gps_spot n) f.gps;
   times = f.times;
 }
 
 -- The total of one log.
-unfoldable pub oneLog : Figures PressurePeak GpsPeak → Totals
-oneLog f = record { logs = 1; figures = inLog 1 f }
+unfoldable pub one_log : Figures PressurePeak GpsPeak → Totals
+one_log f = record { logs = 1; figures = in_log_of 1 f }
 
 -- With the report of one log more.
-unfoldable pub addOf : Totals → Figures PressurePeak GpsPeak → Totals
-addOf t f = record {
+unfoldable pub add_of : Totals → Figures PressurePeak GpsPeak → Totals
+add_of t f = record {
   logs = t.logs + 1;
-  figures = both lowerPressure lowerGps t.figures (inLog (t.logs + 1) f);
+  figures = both lower_pressure lower_gps t.figures (in_log_of (t.logs + 1) f);
 }
 
 -- Every count of a total fits 64 bits.
-unfoldable pub totalFits : Totals → Bool
-totalFits t = all_fit (t.logs ∷ t.figures.lines ∷ t.figures.fixes ∷ t.figures.answers)
+unfoldable pub total_fits : Totals → Bool
+total_fits t = all_fit (t.logs ∷ t.figures.lines ∷ t.figures.fixes ∷ t.figures.answers)
 
 -- Every count fits 64 bits with the report of one log more.
-unfoldable pub addFits : Totals → Figures PressurePeak GpsPeak → Bool
-addFits t f = totalFits (addOf t f)
+unfoldable pub add_fits : Totals → Figures PressurePeak GpsPeak → Bool
+add_fits t f = total_fits (add_of t f)
 
 -- A total, and whether it has the log that was to be added.
 pub record Given : Type 0 where
@@ -97,19 +97,19 @@ pub record Given : Type 0 where
   pub fits : Bool
 
 -- The total with one log more where that fits, else the total as it was.
-unfoldable pub addRes : Totals → Figures PressurePeak GpsPeak → Given
-addRes t f = record { total = pick (addFits t f) (addOf t f) t; fits = addFits t f }
+unfoldable pub add_res : Totals → Figures PressurePeak GpsPeak → Given
+add_res t f = record { total = pick (add_fits t f) (add_of t f) t; fits = add_fits t f }
 
 -- ---- two totals
 
 -- The same figures, their log numbers shifted by k.
-unfoldable pub laterBy : ℕ → Figures PressureSpot GpsSpot → Figures PressureSpot GpsSpot
-laterBy k f = record {
+unfoldable pub later_by : ℕ → Figures PressureSpot GpsSpot → Figures PressureSpot GpsSpot
+later_by k f = record {
   lines = f.lines;
   answers = f.answers;
   fixes = f.fixes;
-  pressure = mapped (laterPressure k) f.pressure;
-  gps = mapped (laterGps k) f.gps;
+  pressure = mapped (later_pressure k) f.pressure;
+  gps = mapped (later_gps k) f.gps;
   times = f.times;
 }
 
@@ -117,16 +117,16 @@ laterBy k f = record {
 unfoldable pub join_of : Totals → Totals → Totals
 join_of a b = record {
   logs = a.logs + b.logs;
-  figures = both lowerPressure lowerGps a.figures (laterBy a.logs b.figures);
+  figures = both lower_pressure lower_gps a.figures (later_by a.logs b.figures);
 }
 
 -- The log numbers that figures name.
-unfoldable pub logNumbers : Figures PressureSpot GpsSpot → List ℕ
-logNumbers f = numbersOf (λ s. s.log) f.pressure ++ numbersOf (λ s. s.log) f.gps
+unfoldable pub log_numbers : Figures PressureSpot GpsSpot → List ℕ
+log_numbers f = numbers_of (λ s. s.log) f.pressure ++ numbers_of (λ s. s.log) f.gps
 
 -- Every joined count fits 64 bits, and every log number of the second, shifted.
-unfoldable pub joinFits : Totals → Totals → Bool
-joinFits a b = totalFits (join_of a b) ∧? all_fit (logNumbers (laterBy a.logs b.figures))
+unfoldable pub join_fits : Totals → Totals → Bool
+join_fits a b = total_fits (join_of a b) ∧? all_fit (log_numbers (later_by a.logs b.figures))
 
 -- A total; or the number of a refusal, and no total.
 pub data Joining : Type 0 where
@@ -134,36 +134,36 @@ pub data Joining : Type 0 where
   refused : ℕ → Joining
 
 -- The joined total; 21 exactly where a joined count or a shifted log number would not fit.
-unfoldable pub joinRes : Totals → Totals → Joining
-joinRes a b = pick (joinFits a b) (given (join_of a b)) (refused 21)
+unfoldable pub join_res : Totals → Totals → Joining
+join_res a b = pick (join_fits a b) (given (join_of a b)) (refused 21)
 
 -- Counts with those of another where they fit, else as they were.
-unfoldable pub sumsRes : List ℕ → List ℕ → Sums
-sumsRes ns ms =
+unfoldable pub sums_res : List ℕ → List ℕ → Sums
+sums_res ns ms =
     let fit = all_fit (added ns ms) in record { counts = pick fit (added ns ms) ns; fit = fit }
 
 -- ---- what the code holds
 
-abbrev pub totalIn : Total → Totals
-totalIn t = record {
+abbrev pub total_in : Total → Totals
+total_in t = record {
   logs = t.logs;
   figures = record {
     lines = t.lines;
     answers = t.answers;
     fixes = t.fixes;
-    pressure = pressureOver t.pressure;
-    gps = gpsOver t.gps;
-    times = timesIn t.times;
+    pressure = pressure_over t.pressure;
+    gps = gps_over t.gps;
+    times = times_in t.times;
   };
 }
 
-abbrev pub addedIn : Added → Given
-addedIn a = record { total = totalIn a.total; fits = a.fits }
+abbrev pub added_in : Added → Given
+added_in a = record { total = total_in a.total; fits = a.fits }
 
 -- 21 is the paper's number; 0 stands for no refusal.
-abbrev pub verdictNumber : Verdict → ℕ
-verdictNumber Verdict.Fits = 0
-verdictNumber Verdict.TooLarge = 21
+abbrev pub verdict_number : Verdict → ℕ
+verdict_number Verdict.Fits = 0
+verdict_number Verdict.TooLarge = 21
 
 -- The number of the answer, and the total beside it.
 pub record Beside : Type 0 where
@@ -173,7 +173,7 @@ pub record Beside : Type 0 where
 -- Beside a refusal stands the total of no logs.
 unfoldable pub beside : Joining → Beside
 beside (given t) = record { number = 0; total = t }
-beside (refused n) = record { number = n; total = noLogs }
+beside (refused n) = record { number = n; total = no_logs }
 
-abbrev pub joinedIn : Joined → Beside
-joinedIn j = record { number = verdictNumber j.verdict; total = totalIn j.total }
+abbrev pub joined_in : Joined → Beside
+joined_in j = record { number = verdict_number j.verdict; total = total_in j.total }

@@ -1,15 +1,15 @@
 // The total of some logs: the figures of a report over all of them in order.
 ghost use Rattle.std.specs.Prelude.{◌≡◌};
-ghost use Rattle.report.specs.Report.{figuresIn};
-ghost use Rattle.total.specs.Total.{addRes, addedIn, beside, joinRes, joinedIn, noLogs, oneLog, refused};
-ghost use Rattle.total.specs.Total.{sumsRes, totalIn, verdictNumber};
+ghost use Rattle.report.specs.Report.{figures_in};
+ghost use Rattle.total.specs.Total.{add_res, added_in, beside, join_res, joined_in, no_logs, one_log, refused};
+ghost use Rattle.total.specs.Total.{sums_res, total_in, verdict_number};
 
 use report::Report;
 use report::times::TimeRange;
 use span::gps::GpsSpan;
 use span::pressure::PressureSpan;
 
-#[derive(Drop)]
+#[derive(Clone, Copy)]
 pub struct Total {
     pub answers: [u64; 13],
     pub logs: u64,
@@ -21,35 +21,35 @@ pub struct Total {
 }
 
 // The total with a log more, where that fits; else the total as it was.
-#[derive(Drop)]
+#[derive(Clone, Copy)]
 pub struct Added {
     pub total: Total,
     pub fits: bool,
 }
 
 // Whether a joined total fits its fields of 64 bits.
-#[derive(Drop)]
+#[derive(Clone, Copy)]
 pub enum Verdict {
     Fits,
     TooLarge,
 }
 
 // The verdict stands beside the total: an enum holds no array. Where it does not fit this is the total of no logs.
-#[derive(Drop)]
+#[derive(Clone, Copy)]
 pub struct Joined {
     pub total: Total,
     pub verdict: Verdict,
 }
 
 // Counts with those of another, where they fit; else as they were.
-#[derive(Drop)]
+#[derive(Clone, Copy)]
 struct Sums {
     counts: [u64; 13],
     fit: bool,
 }
 
 fn add_counts(counts: [u64; 13], more: [u64; 13]) -> Sums
-    ensures { result ≡ sumsRes counts more }
+    ensures { result ≡ sums_res counts more }
 {
     let mut all = counts;
     let mut i: usize = 0;
@@ -69,7 +69,7 @@ fn add_counts(counts: [u64; 13], more: [u64; 13]) -> Sums
 impl Verdict {
     // The number that the paper gives it; 0 is no refusal.
     pub fn number(self) -> u8
-        ensures { result ≡ verdictNumber self }
+        ensures { result ≡ verdict_number self }
     {
         match self {
             Verdict::Fits => 0,
@@ -80,7 +80,7 @@ impl Verdict {
 
 // 21, and no total.
 fn too_large() -> Joined
-    ensures { joinedIn result ≡ beside (refused 21) }
+    ensures { joined_in result ≡ beside (refused 21) }
 {
     Joined {
         total: Total::new(),
@@ -91,7 +91,7 @@ fn too_large() -> Joined
 impl Total {
     // Of no logs.
     pub fn new() -> Total
-        ensures { totalIn result ≡ noLogs }
+        ensures { total_in result ≡ no_logs }
     {
         Total {
             answers: [0u64; 13],
@@ -106,7 +106,7 @@ impl Total {
 
     // Of one log.
     fn of_log(report: Report) -> Total
-        ensures { totalIn result ≡ oneLog (figuresIn report) }
+        ensures { total_in result ≡ one_log (figures_in report) }
     {
         let answers = report.answers;
         let pressure = report.pressure;
@@ -126,7 +126,7 @@ impl Total {
     // The logs of this one and then those of the other, whose log numbers are shifted by the length of the first. 21
     // where a joined count or a shifted log number would not fit.
     pub fn join(self, other: Total) -> Joined
-        ensures { joinedIn result ≡ beside (joinRes (totalIn self) (totalIn other)) }
+        ensures { joined_in result ≡ beside (join_res (total_in self) (total_in other)) }
     {
         let logs = self.logs;
         let counts = self.answers;
@@ -174,7 +174,7 @@ impl Total {
 
     // With the report of one log more. Where a count does not fit, the total stays.
     pub fn add(self, report: Report) -> Added
-        ensures { addedIn result ≡ addRes (totalIn self) (figuresIn report) }
+        ensures { added_in result ≡ add_res (total_in self) (figures_in report) }
     {
         let joined = self.join(Total::of_log(report));
         let total = joined.total;

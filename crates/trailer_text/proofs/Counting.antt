@@ -4,16 +4,16 @@ use Rattle.text.proofs.Prelude.{arith, refl, sym, first, yes≤, holds}
 use Rattle.records.specs.declared.Record.{Record}
 use Rattle.walk.specs.Readings.{Line-read}
 use Rattle.walk.proofs.Turns.{one_at_most}
-use Rattle.trailer_text.specs.Trailer.{isRefusal, counted, tallied, countStep}
+use Rattle.trailer_text.specs.Trailer.{is_refusal_of, counted, tallied, count_step}
 use Rattle.trailer_text.specs.declared.Trailer.{Trailer}
 
 -- counts below the largest number go up by a reading
-pub tallied-is : (t : Trailer) (p : ℕ) (s : List ℕ) (m : Res Record) → t.lines < largest → t.refused < largest →
+pub tallied_is : (t : Trailer) (p : ℕ) (s : List ℕ) (m : Res Record) → t.lines < largest → t.refused < largest →
     tallied t p s m ≡ counted t p s m
 unfolding tallied
-tallied-is t p s m h k = sym (first _ (holds (yes≤ (omega arith)) (yes≤ (omega arith))) refl)
+tallied_is t p s m h k = sym (first _ (holds (yes≤ (omega arith)) (yes≤ (omega arith))) refl)
 
 -- a line raises the count of refused lines by at most one
-pub one-refused : (t : Trailer) (x : Line-read) → (countStep t x).refused ≤ t.refused + 1
-unfolding countStep counted
-one-refused t x = omega (arith, one_at_most (isRefusal x.answer))
+pub one_refused : (t : Trailer) (x : Line-read) → (count_step t x).refused ≤ t.refused + 1
+unfolding count_step counted
+one_refused t x = omega (arith, one_at_most (is_refusal_of x.answer))

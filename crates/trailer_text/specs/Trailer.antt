@@ -9,13 +9,13 @@ use Rattle.trailer_text.specs.declared.{Offset.Offset, Trailer.Trailer}
 use Rattle.trailer_text.specs.declared.Offset.TheVariants.{Missing, At}
 
 -- An answer from 1 to 5.
-unfoldable pub isRefusal : Res Record → Bool
-isRefusal m = (1 ≤? answered m) ∧? (answered m ≤? 5)
+unfoldable pub is_refusal_of : Res Record → Bool
+is_refusal_of m = (1 ≤? answered m) ∧? (answered m ≤? 5)
 
 -- The I line in force after a line at a place: an accepted line that begins with I is, after a refused one there is
 -- none.
-unfoldable pub forceAfter : Offset → ℕ → List ℕ → Res Record → Offset
-forceAfter o p s m = pick (begins (code "I") s) (pick (answered m =? 0) (At p) Missing) o
+unfoldable pub force_after : Offset → ℕ → List ℕ → Res Record → Offset
+force_after o p s m = pick (begins (code "I") s) (pick (answered m =? 0) (At p) Missing) o
 
 -- Over no readings.
 unfoldable pub nothing : Trailer
@@ -25,8 +25,8 @@ nothing = record { lines = 0; refused = 0; in_force = Missing }
 unfoldable pub counted : Trailer → ℕ → List ℕ → Res Record → Trailer
 counted t p s m = record {
   lines = t.lines + 1;
-  refused = t.refused + pick (isRefusal m) 1 0;
-  in_force = forceAfter t.in_force p s m;
+  refused = t.refused + pick (is_refusal_of m) 1 0;
+  in_force = force_after t.in_force p s m;
 }
 
 -- The same in numbers of 64 bits: where a count would pass them, the figures stay.
@@ -34,20 +34,20 @@ unfoldable pub tallied : Trailer → ℕ → List ℕ → Res Record → Trailer
 tallied t p s m = pick ((t.lines + 1 ≤? largest) ∧? (t.refused + 1 ≤? largest)) (counted t p s m) t
 
 -- Over one reading more, as a step.
-unfoldable pub countStep : Trailer → Line-read → Trailer
-countStep t x = counted t x.place x.line x.answer
+unfoldable pub count_step : Trailer → Line-read → Trailer
+count_step t x = counted t x.place x.line x.answer
 
 -- ---- its text
 
 -- The place, or a dash for none.
-unfoldable pub offsetText : Offset → List ℕ
-offsetText Missing = code "-" ∷ []
-offsetText (At p) = plain p
+unfoldable pub offset_text : Offset → List ℕ
+offset_text Missing = code "-" ∷ []
+offset_text (At p) = plain p
 
 -- The two counts.
 unfoldable pub figures : Trailer → List ℕ
 figures t = (code " " ∷ []) ++ (plain t.lines ++ ((code " " ∷ []) ++ plain t.refused))
 
 -- T, the counts, the place, and an LF.
-unfoldable pub trailerText : Trailer → List ℕ
-trailerText t = (code "T" ∷ []) ++ (figures t ++ ((code " " ∷ []) ++ (offsetText t.in_force ++ (LF ∷ []))))
+unfoldable pub trailer_text_of : Trailer → List ℕ
+trailer_text_of t = (code "T" ∷ []) ++ (figures t ++ ((code " " ∷ []) ++ (offset_text t.in_force ++ (LF ∷ []))))

@@ -1,9 +1,9 @@
 // The trailer: counts over the readings of a walk, and where the I line in force begins.
 ghost use Rattle.std.specs.Prelude.{◌≡◌};
 ghost use Rattle.put.specs.Put.{Wrote};
-ghost use Rattle.records.specs.Record.{readingRes};
-ghost use Rattle.trailer_text.specs.Trailer.{nothing, isRefusal, tallied, forceAfter, offsetText, figures};
-ghost use Rattle.trailer_text.specs.Trailer.{trailerText};
+ghost use Rattle.records.specs.Record.{reading_res};
+ghost use Rattle.trailer_text.specs.Trailer.{nothing, is_refusal_of, tallied, force_after, offset_text, figures};
+ghost use Rattle.trailer_text.specs.Trailer.{trailer_text_of};
 
 use print::number::put_nat;
 use put::put_byte;
@@ -11,13 +11,13 @@ use records::Reading;
 use text::line::begins;
 
 // The place of the I line in force, or none.
-#[derive(Drop)]
+#[derive(Clone, Copy)]
 pub enum Offset {
     Missing,
     At(usize),
 }
 
-#[derive(Drop)]
+#[derive(Clone, Copy)]
 pub struct Trailer {
     pub in_force: Offset,
     pub lines: u64,
@@ -26,7 +26,7 @@ pub struct Trailer {
 
 // An answer from 1 to 5.
 pub fn is_refusal(reading: Reading) -> bool
-    ensures { result ≡ isRefusal (readingRes reading) }
+    ensures { result ≡ is_refusal_of (reading_res reading) }
 {
     let answer = reading.number();
     if answer < 1 {
@@ -38,7 +38,7 @@ pub fn is_refusal(reading: Reading) -> bool
 impl Offset {
     // After a line: an accepted I line is in force from now on, a refused one leaves none.
     pub fn after(self, place: usize, line: &[u8], reading: Reading) -> Offset
-        ensures { result ≡ forceAfter self place line.now (readingRes reading) }
+        ensures { result ≡ force_after self place line.now (reading_res reading) }
     {
         if begins(b'I', line) {
             if reading.number() == 0 {
@@ -51,7 +51,7 @@ impl Offset {
 
     // The place, or a dash.
     pub fn put(self, buf: &mut [u8], at: usize) -> usize
-        ensures { Wrote buf.old at (offsetText self) buf.new result }
+        ensures { Wrote buf.old at (offset_text self) buf.new result }
     {
         match self {
             Offset::Missing => put_byte(buf, at, b'-'),
@@ -74,7 +74,7 @@ impl Trailer {
 
     // Over one reading more. Where a count would pass 64 bits, the figures stay.
     pub fn after(self, place: usize, line: &[u8], reading: Reading) -> Trailer
-        ensures { result ≡ tallied self place line.now (readingRes reading) }
+        ensures { result ≡ tallied self place line.now (reading_res reading) }
     {
         if self.lines == 0xffff_ffff_ffff_ffff {
             return self;
@@ -111,7 +111,7 @@ impl Trailer {
 
     // T, lines, lines answered 1 to 5, the I line in force; closed by LF.
     pub fn put(self, buf: &mut [u8], at: usize) -> usize
-        ensures { Wrote buf.old at (trailerText self) buf.new result }
+        ensures { Wrote buf.old at (trailer_text_of self) buf.new result }
     {
         let in_force = self.in_force;
         let at_counts = put_byte(buf, at, b'T');

@@ -2,47 +2,47 @@
 use Rattle.text.specs.Prelude.{ℕ, ◌+◌, ◌≤◌, ◌<◌, ◌≡◌, Bool, true, false, List, length, Res, ok, no, pick, ◌≤?◌, ◌∧?◌}
 use Rattle.text.specs.Prelude.{largest}
 use Rattle.text.proofs.Prelude.{arith, refl, sym, ap, ◌∙◌, first, second, yes≤, is≤, both, and}
-use Rattle.part.specs.Part.{bytes_of, findPart, shown}
-use Rattle.part.proofs.Parts.{shown-found}
-use Rattle.records.specs.Record.{readLine, readingRes}
+use Rattle.part.specs.Part.{bytes_of, find_part, shown}
+use Rattle.part.proofs.Parts.{shown_found}
+use Rattle.records.specs.Record.{read_line_of, reading_res}
 use Rattle.records.specs.declared.{Record.Record, Reading.Reading}
 use Rattle.records.specs.declared.Reading.TheVariants.{Accepted, Refused}
-use Rattle.log.specs.Line.{cut_at}
-use Rattle.log.specs.declared.Cut.{Cut}
-use Rattle.log.proofs.Cuts.{cut_inside}
-use Rattle.held.specs.Tables.{tablesAfter}
+use Rattle.igc_log.specs.Line.{cut_at}
+use Rattle.igc_log.specs.declared.Cut.{Cut}
+use Rattle.igc_log.proofs.Cuts.{cut_inside}
+use Rattle.held.specs.Tables.{tables_after}
 use Rattle.held.specs.declared.tables.Tables.{Tables}
-use Rattle.report.specs.Report.{takenBy, isFull, figuresIn, reportAfter}
+use Rattle.report.specs.Report.{taken_by, is_full_of, figures_in, report_after}
 use Rattle.report.specs.declared.Report.{Report}
-use Rattle.report.proofs.Answers.{report-is}
+use Rattle.report.proofs.Answers.{report_is}
 use Rattle.cursor.specs.Cursor.{past, next_of}
-use Rattle.walk.specs.Walk.{reading_of, nextIn, stepTo, step_of}
+use Rattle.walk.specs.Walk.{reading_of, next_in, step_to, step_of}
 use Rattle.cursor.specs.declared.{Cursor.Cursor, Next.Next}
 use Rattle.walk.specs.declared.{Walk.Walk, Step.Step}
 use Rattle.walk.specs.declared.Taken.TheVariants.{Line, Done}
 
 -- the answer that is viewed as m
-pub reading-is : (r : Reading) {m : Res Record} → readingRes r ≡ m → r ≡ reading_of m
+pub reading_is : (r : Reading) {m : Res Record} → reading_res r ≡ m → r ≡ reading_of m
 unfolding reading_of
-reading-is (Accepted v) e = ap reading_of e
-reading-is (Refused n) e = ap reading_of e
+reading_is (Accepted v) e = ap reading_of e
+reading_is (Refused n) e = ap reading_of e
 
 -- a reading's view is what was viewed
-pub viewed : (m : Res Record) → readingRes (reading_of m) ≡ m
+pub viewed : (m : Res Record) → reading_res (reading_of m) ≡ m
 unfolding reading_of
 viewed (ok r) = refl
 viewed (no n) = refl
 
 module _ (s : List ℕ) where
   -- the line of a cut inside the log, as it is shown
-  pub cut-shown : (p : ℕ) → p ≤ length s → shown (findPart (cut_at p s).line s) ≡ (cut_at p s).line
-  cut-shown p h = shown-found (sym (cut_inside s p h))
+  pub cut_shown : (p : ℕ) → p ≤ length s → shown (find_part (cut_at p s).line s) ≡ (cut_at p s).line
+  cut_shown p h = shown_found (sym (cut_inside s p h))
 
   -- a line that comes next is the one that the cut finds at the place, which lies inside the log
-  pub next-is : (c : Cursor) (cut : Cut) (after : Cursor) → Next.Line cut after ≡ next_of s c →
+  pub next_is : (c : Cursor) (cut : Cut) (after : Cursor) → Next.Line cut after ≡ next_of s c →
       (cut ≡ cut_at c.place s) × (c.place ≤ length s)
   unfolding next_of pick
-  next-is c cut after e = by ((c.place + 1 ≤? length s) ∧? (c.number + 1 ≤? largest)) refl e
+  next_is c cut after e = by ((c.place + 1 ≤? length s) ∧? (c.number + 1 ≤? largest)) refl e
     where
       by : (t : Bool) → ((c.place + 1 ≤? length s) ∧? (c.number + 1 ≤? largest)) ≡ t
           → Next.Line cut after ≡ pick t (Next.Line (cut_at c.place s) (past c (cut_at c.place s))) Next.Done
@@ -51,48 +51,48 @@ module _ (s : List ℕ) where
       by false h e = let z : ◌≡◌ {A = ℕ} 0 1 = cc in absurd (omega arith)
 
   -- inside the log and below the largest number a line comes next
-  pub next-on : (c : Cursor) → c.place < length s → c.number < largest →
+  pub next_on : (c : Cursor) → c.place < length s → c.number < largest →
       next_of s c ≡ Next.Line (cut_at c.place s) (past c (cut_at c.place s))
   unfolding next_of
-  next-on c h n = sym (first _ (and (yes≤ (omega arith)) (yes≤ (omega arith))) refl)
+  next_on c h n = sym (first _ (and (yes≤ (omega arith)) (yes≤ (omega arith))) refl)
 
   -- and a step reads it
-  pub step-on : (w : Walk) → w.at.place < length s → w.at.number < largest
-      → isFull (figuresIn w.report) ≡ false
+  pub step_on : (w : Walk) → w.at.place < length s → w.at.number < largest
+      → is_full_of (figures_in w.report) ≡ false
       → let l = bytes_of (cut_at w.at.place s).line s in
       step_of s w ≡ record {
         walk = record {
           at = past w.at (cut_at w.at.place s);
-          held = tablesAfter w.held l;
-          report = reportAfter w.report w.at.place (readLine l);
+          held = tables_after w.held l;
+          report = report_after w.report w.at.place (read_line_of l);
         };
-        taken = Line (cut_at w.at.place s).line (reading_of (readLine l));
+        taken = Line (cut_at w.at.place s).line (reading_of (read_line_of l));
       }
-  unfolding step_of stepTo nextIn
-  step-on w h n room = ap (stepTo s w) (sym (second _ room refl) ∙ next-on w.at h n)
+  unfolding step_of step_to next_in
+  step_on w h n room = ap (step_to s w) (sym (second _ room refl) ∙ next_on w.at h n)
 
   -- where no line comes next the walk stays
-  pub step-done : (w : Walk) → isFull (figuresIn w.report) ≡ false → Next.Done ≡ next_of s w.at →
+  pub step_done : (w : Walk) → is_full_of (figures_in w.report) ≡ false → Next.Done ≡ next_of s w.at →
       ◌≡◌ {A = Step} (record { walk = w; taken = Done }) (step_of s w)
-  unfolding step_of stepTo nextIn pick
-  step-done w room e = rw (room, sym e)
+  unfolding step_of step_to next_in pick
+  step_done w room e = rw (room, sym e)
 
   -- and so it does where a count is at its largest
-  pub step-full : (w : Walk) → isFull (figuresIn w.report) ≡ true →
+  pub step_full : (w : Walk) → is_full_of (figures_in w.report) ≡ true →
       ◌≡◌ {A = Step} (record { walk = w; taken = Done }) (step_of s w)
-  unfolding step_of stepTo nextIn pick
-  step-full w full = rw full
+  unfolding step_of step_to next_in pick
+  step_full w full = rw full
 
   -- the line l of the cut, its reading r, the report after it and what is held after it are the step
   pub step_line : (w : Walk) {cut : Cut} {after : Cursor} {l : List ℕ} {r : Reading} {f : Report} {h : Tables} →
-      isFull (figuresIn w.report) ≡ false
+      is_full_of (figures_in w.report) ≡ false
       → Next.Line cut after ≡ next_of s w.at
-      → l ≡ bytes_of (shown (findPart cut.line s)) s → readingRes r ≡ readLine l
-      → figuresIn f ≡ takenBy (figuresIn w.report) w.at.place (readingRes r) → h ≡ tablesAfter w.held l
+      → l ≡ bytes_of (shown (find_part cut.line s)) s → reading_res r ≡ read_line_of l
+      → figures_in f ≡ taken_by (figures_in w.report) w.at.place (reading_res r) → h ≡ tables_after w.held l
       → ◌≡◌ {A = Step} (record { walk = record { held = h; report = f; at = after }; taken = Line cut.line r })
       (step_of s w)
-  unfolding step_of stepTo nextIn reportAfter pick
+  unfolding step_of step_to next_in report_after pick
   step_line w {cut} {after} {l} {r} {f} {h} room e v a u g =
-      let i = next-is w.at cut after e in
-      let b : l ≡ bytes_of cut.line s = v ∙ rw i.0 (ap (λ p. bytes_of p s) (cut-shown w.at.place i.1)) in
-      rw (g, report-is f (rw a at u), reading-is r a, b, room, sym e)
+      let i = next_is w.at cut after e in
+      let b : l ≡ bytes_of cut.line s = v ∙ rw i.0 (ap (λ p. bytes_of p s) (cut_shown w.at.place i.1)) in
+      rw (g, report_is f (rw a at u), reading_is r a, b, room, sym e)

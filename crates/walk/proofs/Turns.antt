@@ -2,76 +2,76 @@
 use Rattle.text.specs.Prelude.{ℕ, ◌+◌, ◌-◌, ◌≤◌, ◌<◌, ◌≡◌, Bool, true, false, List, ◌++◌, length, take, pick}
 use Rattle.text.proofs.Prelude.{arith, refl}
 use mathlib.Core.Option.{Option, none, some}
-use Rattle.part.specs.Part.{partBytes, bytes_of}
-use Rattle.records.specs.Record.{readLine, readingRes}
+use Rattle.part.specs.Part.{part_bytes, bytes_of}
+use Rattle.records.specs.Record.{read_line_of, reading_res}
 use Rattle.records.specs.declared.Reading.{Reading}
-use Rattle.log.specs.Line.{cut_at}
-use Rattle.log.specs.Log.{readings}
-use Rattle.log.specs.Fold.{over, texts, or_else, firstWith, keep, Carried, fresh, read_on}
-use Rattle.log.specs.declared.Cut.{Cut}
-use Rattle.log.proofs.Reached as log
-use Rattle.log.proofs.Reached.{Reached}
+use Rattle.igc_log.specs.Line.{cut_at}
+use Rattle.igc_log.specs.Log.{readings}
+use Rattle.igc_log.specs.Fold.{over, texts, or_else, first_with, keep, Carried, fresh, read_on}
+use Rattle.igc_log.specs.declared.Cut.{Cut}
+use Rattle.igc_log.proofs.Reached as log
+use Rattle.igc_log.proofs.Reached.{Reached}
 use Rattle.held.specs.declared.tables.Tables.{Tables}
-use Rattle.walk.specs.Turn.{gotAt}
+use Rattle.walk.specs.Turn.{got_at}
 use Rattle.walk.specs.Readings.{Line-read, reader}
 use Rattle.walk.specs.declared.turn.Got.{Got}
-use Rattle.walk.proofs.Laws.{reading-is, viewed, cut-shown}
+use Rattle.walk.proofs.Laws.{reading_is, viewed, cut_shown}
 
 -- the line as the code cuts it, views it and reads it
 pub got : (s : List ℕ) (at : ℕ) {l : List ℕ} {cut : Cut} {r : Reading} →
-    cut ≡ cut_at at s → l ≡ partBytes cut.line s → readingRes r ≡ readLine l →
-    ◌≡◌ {A = Got} (record { reading = r; line = cut.line; next = cut.next }) (gotAt at s)
-unfolding gotAt
-got s at {r} e v a = rw (reading-is r a, v, e)
+    cut ≡ cut_at at s → l ≡ part_bytes cut.line s → reading_res r ≡ read_line_of l →
+    ◌≡◌ {A = Got} (record { reading = r; line = cut.line; next = cut.next }) (got_at at s)
+unfolding got_at
+got s at {r} e v a = rw (reading_is r a, v, e)
 
 -- what was read there, as line n at the place p with h held after it
-abbrev pub gotRead : Got → List ℕ → ℕ → ℕ → Tables → Line-read
-gotRead g s n p h =
-    record { number = n; place = p; line = partBytes g.line s; answer = readingRes g.reading; held = h }
+abbrev pub got_read : Got → List ℕ → ℕ → ℕ → Tables → Line-read
+got_read g s n p h =
+    record { number = n; place = p; line = part_bytes g.line s; answer = reading_res g.reading; held = h }
 
-module _ (at : ℕ) (s : List ℕ) {g : Got} (e : g ≡ gotAt at s) where
+module _ (at : ℕ) (s : List ℕ) {g : Got} (e : g ≡ got_at at s) where
   -- its part and the next place are the cut's
   pub cut_of : ◌≡◌ {A = Cut} (record { line = g.line; next = g.next }) (cut_at at s)
-  unfolding gotAt
+  unfolding got_at
   cut_of = rw e
 
   -- and its answer is the one to the part's bytes
-  pub answer-of : readingRes g.reading ≡ readLine (partBytes g.line s)
-  unfolding gotAt
-  answer-of = rw e (viewed _)
+  pub answer_of : reading_res g.reading ≡ read_line_of (part_bytes g.line s)
+  unfolding got_at
+  answer_of = rw e (viewed _)
 
 -- ---- a turn, with all that is carried
 
 module _ {T : Type 0} {step : T → Line-read → T} {c₀ : Carried Tables T} {s : List ℕ} {at n p : ℕ} {h : Tables} {a : T}
     {g : Got}
     (i : at < length s) (r : Reached reader step c₀ s at (record { number = n; place = p; held = h; made = a }))
-    (e : g ≡ gotAt at s) where
+    (e : g ≡ got_at at s) where
   -- what is held after the line
   abbrev after : Tables
-  after = reader.after p h (partBytes g.line s)
+  after = reader.after p h (part_bytes g.line s)
 
   -- the line read here, with h' held after it and a' made of it, at the next place
   pub turn : {p' : ℕ} {h' : Tables} {a' : T} → p' + at ≡ p + g.next → h' ≡ after →
-      a' ≡ step a (gotRead g s (n + 1) p after) →
+      a' ≡ step a (got_read g s (n + 1) p after) →
       Reached reader step c₀ s g.next (record { number = n + 1; place = p'; held = h'; made = a' })
   turn q k m =
       log.line {cut = record { line = g.line; next = g.next }} i r (cut_of at s e) refl q k
-      (rw (answer-of at s e) at m)
+      (rw (answer_of at s e) at m)
 
   -- the line is the one that is cut there, and the answer is the one to it
-  pub cut-here : let l = bytes_of (cut_at at s).line s in (partBytes g.line s ≡ l)
-      × (readingRes g.reading ≡ readLine l)
-  unfolding gotAt
-  cut-here = rw (e, viewed (readLine (partBytes (cut_at at s).line s)), cut-shown s at r.inside) (refl, refl)
+  pub cut_here : let l = bytes_of (cut_at at s).line s in (part_bytes g.line s ≡ l)
+      × (reading_res g.reading ≡ read_line_of l)
+  unfolding got_at
+  cut_here = rw (e, viewed (read_line_of (part_bytes (cut_at at s).line s)), cut_shown s at r.inside) (refl, refl)
 
   -- the text of what was read up to the next place
-  pub text-turn : (f : Line-read → List ℕ) → texts f (read_on reader c₀ (take g.next s)) ≡
-      texts f (read_on reader c₀ (take at s)) ++ f (gotRead g s (n + 1) p after)
-  unfolding gotAt
-  text-turn f = let k = cut-here in rw (k.0, k.1) (rw e (log.text-next r i f))
+  pub text_turn : (f : Line-read → List ℕ) → texts f (read_on reader c₀ (take g.next s)) ≡
+      texts f (read_on reader c₀ (take at s)) ++ f (got_read g s (n + 1) p after)
+  unfolding got_at
+  text_turn f = let k = cut_here in rw (k.0, k.1) (rw e (log.text_next r i f))
 
-  pub less-left : length s - g.next < length s - at
-  less-left = log.less-left r i (cut_of at s e)
+  pub less_left : length s - g.next < length s - at
+  less_left = log.less_left r i (cut_of at s e)
 
 -- ---- a product of a whole log that looks at no line's number and at no table
 
@@ -85,25 +85,25 @@ module _ {T : Type 0} (step : T → Line-read → T) (a₀ : T) (s : List ℕ) w
 
 module _ {T : Type 0} {step : T → Line-read → T} where
   -- before the first line
-  pub at-start : {a : T} {s : List ℕ} → Made step a s 0 a
-  at-start = record { number = _; held = _; reached = log.at-start }
+  pub at_start : {a : T} {s : List ℕ} → Made step a s 0 a
+  at_start = record { number = _; held = _; reached = log.at-start }
 
   module _ {a₀ a : T} {s : List ℕ} {at : ℕ} where
     -- after the last line
-    pub at-end : length s ≤ at → Made step a₀ s at a → a ≡ over step a₀ (readings reader s)
-    at-end i m = log.product i m.reached
+    pub at_end : length s ≤ at → Made step a₀ s at a → a ≡ over step a₀ (readings reader s)
+    at_end i m = log.product i m.reached
 
     -- a count that a line raises by at most one
     pub few : (m : T → ℕ) → ((a : T) (x : Line-read) → m (step a x) ≤ m a + 1) → Made step a₀ s at a → m a ≤ m a₀ + at
     few m h k = log.at_most k.reached m h
 
-    module _ {g : Got} (i : at < length s) (m : Made step a₀ s at a) (e : g ≡ gotAt at s) where
+    module _ {g : Got} (i : at < length s) (m : Made step a₀ s at a) (e : g ≡ got_at at s) where
       -- the line read here, with a' made of it
-      pub line : {a' : T} → ((n : ℕ) (h : Tables) → a' ≡ step a (gotRead g s n at h)) → Made step a₀ s g.next a'
+      pub line : {a' : T} → ((n : ℕ) (h : Tables) → a' ≡ step a (got_read g s n at h)) → Made step a₀ s g.next a'
       line k = record { number = _; held = _; reached = turn i m.reached e (omega arith) refl (k _ _) }
 
       pub near : length s - g.next < length s - at
-      near = less-left i m.reached e
+      near = less_left i m.reached e
 
 pub one_at_most : (t : Bool) → pick t 1 0 ≤ 1
 unfolding pick
@@ -113,15 +113,15 @@ one_at_most false = omega arith
 -- ---- the same of the first line that has something
 
 module _ {T : Type 0} (f : Line-read → Option T) {s : List ℕ} {at : ℕ} where
-  pub not_found : length s ≤ at → Made (keep f) none s at none → none ≡ firstWith f (readings reader s)
+  pub not_found : length s ≤ at → Made (keep f) none s at none → none ≡ first_with f (readings reader s)
   not_found i m = log.not_found f m.reached i refl
 
-  module _ {g : Got} (i : at < length s) (m : Made (keep f) none s at none) (e : g ≡ gotAt at s) where
-    pub keep-passes : ((n : ℕ) (h : Tables) → none ≡ f (gotRead g s n at h)) → Made (keep f) none s g.next none
+  module _ {g : Got} (i : at < length s) (m : Made (keep f) none s at none) (e : g ≡ got_at at s) where
+    pub keep_passes : ((n : ℕ) (h : Tables) → none ≡ f (got_read g s n at h)) → Made (keep f) none s g.next none
     unfolding keep or_else
-    keep-passes k = line i m e k
+    keep_passes k = line i m e k
 
-    pub keep-finds : {b : T} → ((n : ℕ) (h : Tables) → some b ≡ f (gotRead g s n at h)) →
-        some b ≡ firstWith f (readings reader s)
+    pub keep_finds : {b : T} → ((n : ℕ) (h : Tables) → some b ≡ f (got_read g s n at h)) →
+        some b ≡ first_with f (readings reader s)
     unfolding keep or_else
-    keep-finds k = log.found f (line i m e k).reached refl
+    keep_finds k = log.found f (line i m e k).reached refl

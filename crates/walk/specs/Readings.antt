@@ -2,12 +2,12 @@
 use Rattle.text.specs.Prelude.{ℕ, zero, suc, code, ◌≡◌, List, [], ◌∷◌, length, Res, pick, begins}
 use Rattle.std.specs.Prelude.{refl}
 use Rattle.part.specs.Part.{bytes_of}
-use Rattle.table.specs.Table.{readTable}
-use Rattle.records.specs.Record.{readLine, readingRes}
+use Rattle.table.specs.Table.{read_table}
+use Rattle.records.specs.Record.{read_line_of, reading_res}
 use Rattle.records.specs.declared.Record.{Record}
-use Rattle.log.specs.Log.{Reader, LineRead, Letter}
-use Rattle.held.specs.Held.{setBy, heldAfter}
-use Rattle.held.specs.Tables.{noTables, tablesAfter}
+use Rattle.igc_log.specs.Log.{Reader, LineRead, Letter}
+use Rattle.held.specs.Held.{set_by_of, held_after}
+use Rattle.held.specs.Tables.{no_tables, tables_after}
 use Rattle.held.specs.declared.{Held.Held, tables.Tables.Tables}
 use Rattle.walk.specs.Walk.{step_of}
 use Rattle.walk.specs.declared.{Walk.Walk, Taken.Taken}
@@ -15,35 +15,35 @@ use Rattle.walk.specs.declared.Taken.TheVariants.{Line, Done}
 
 -- This reader of lines: the answer to a line with its record, and the tables that I lines and J lines leave.
 abbrev pub reader : Reader (Res Record) Tables
-reader = record { read = readLine; after = λ p t s. tablesAfter t s; start = noTables }
+reader = record { read = read_line_of; after = λ p t s. tables_after t s; start = no_tables }
 
 -- A line that begins with the letter sets or spoils the table, and no other touches it.
 abbrev pub SetBy : ℕ → (Tables → Held) → Type 0
 SetBy letter view = (p : ℕ) (t : Tables) (s : List ℕ) →
-    view (tablesAfter t s) ≡ pick (begins letter s) (setBy (readTable s)) (view t)
+    view (tables_after t s) ≡ pick (begins letter s) (set_by_of (read_table s)) (view t)
 
 -- So it is with I lines and the one table,
-pub i-lines-set : SetBy (code "I") (λ t. t.i)
-unfolding tablesAfter heldAfter
-i-lines-set p t s = refl
+pub i_lines_set : SetBy (code "I") (λ t. t.i)
+unfolding tables_after held_after
+i_lines_set p t s = refl
 
 -- and with J lines and the other.
-pub j-lines-set : SetBy (code "J") (λ t. t.j)
-unfolding tablesAfter heldAfter
-j-lines-set p t s = refl
+pub j_lines_set : SetBy (code "J") (λ t. t.j)
+unfolding tables_after held_after
+j_lines_set p t s = refl
 
 -- A letter with its table: an accepted line replaces it, a refused one spoils it.
-abbrev tableLetter : (letter : ℕ) (view : Tables → Held) → SetBy letter view → Letter reader Held
-tableLetter letter view law =
-    record { view = view; begins = begins letter; leaves = λ s. setBy (readTable s); law = law }
+abbrev table_letter : (letter : ℕ) (view : Tables → Held) → SetBy letter view → Letter reader Held
+table_letter letter view law =
+    record { view = view; begins = begins letter; leaves = λ s. set_by_of (read_table s); law = law }
 
 -- I lines with their table.
-abbrev pub letterI : Letter reader Held
-letterI = tableLetter (code "I") (λ t. t.i) i-lines-set
+abbrev pub letter_i : Letter reader Held
+letter_i = table_letter (code "I") (λ t. t.i) i_lines_set
 
 -- J lines with theirs.
-abbrev pub letterJ : Letter reader Held
-letterJ = tableLetter (code "J") (λ t. t.j) j-lines-set
+abbrev pub letter_j : Letter reader Held
+letter_j = table_letter (code "J") (λ t. t.j) j_lines_set
 
 -- What a walk reads of one line.
 abbrev pub Line-read : Type 0
@@ -57,7 +57,7 @@ read_by s (Line part reading) w later =
       number = w.at.number;
       place = part.start;
       line = bytes_of part s;
-      answer = readingRes reading;
+      answer = reading_res reading;
       held = w.held;
     } ∷ later
 
@@ -67,10 +67,10 @@ walked zero s w = []
 walked (suc k) s w = read_by s (step_of s w).taken (step_of s w).walk (walked k s (step_of s w).walk)
 
 -- The walk after k steps.
-unfoldable pub afterSteps : ℕ → List ℕ → Walk → Walk
-afterSteps zero s w = w
-afterSteps (suc k) s w = afterSteps k s (step_of s w).walk
+unfoldable pub after_steps : ℕ → List ℕ → Walk → Walk
+after_steps zero s w = w
+after_steps (suc k) s w = after_steps k s (step_of s w).walk
 
 -- The walk at its end: a step takes a byte at least, so after as many steps as the log has bytes it is done.
-unfoldable pub atEnd : List ℕ → Walk → Walk
-atEnd s w = afterSteps (length s) s w
+unfoldable pub at_end_of : List ℕ → Walk → Walk
+at_end_of s w = after_steps (length s) s w

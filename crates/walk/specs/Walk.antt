@@ -1,12 +1,12 @@
 -- One step of a walk.
 use Rattle.text.specs.Prelude.{ℕ, Bool, List, length, Res, ok, no, pick, ◌≤?◌, ◌∨?◌, largest}
 use Rattle.part.specs.Part.{bytes_of}
-use Rattle.records.specs.Record.{readLine}
+use Rattle.records.specs.Record.{read_line_of}
 use Rattle.records.specs.declared.{Record.Record, Reading.Reading}
 use Rattle.records.specs.declared.Reading.TheVariants.{Accepted, Refused}
-use Rattle.held.specs.Tables.{noTables, tablesAfter}
+use Rattle.held.specs.Tables.{no_tables, tables_after}
 use Rattle.report.specs.Figures.{empty}
-use Rattle.report.specs.Report.{isFull, figuresIn, reportMade, reportAfter}
+use Rattle.report.specs.Report.{is_full_of, figures_in, report_made, report_after}
 use Rattle.cursor.specs.Cursor.{start, next_of}
 use Rattle.cursor.specs.declared.Next.{Next}
 use Rattle.walk.specs.declared.{Walk.Walk, Step.Step}
@@ -14,7 +14,7 @@ use Rattle.walk.specs.declared.Taken.TheVariants.{Line, Done}
 
 -- Place 0, line number 0, no table of either letter, and the report of no lines.
 unfoldable pub fresh : Walk
-fresh = record { at = start; held = noTables; report = reportMade empty }
+fresh = record { at = start; held = no_tables; report = report_made empty }
 
 -- The answer of the code to a line.
 unfoldable pub reading_of : Res Record → Reading
@@ -22,27 +22,27 @@ reading_of (ok r) = Accepted r
 reading_of (no n) = Refused n
 
 -- The line that comes next; where a count of the report is at its largest there is none.
-unfoldable pub nextIn : List ℕ → Walk → Next
-nextIn s w = pick (isFull (figuresIn w.report)) Next.Done (next_of s w.at)
+unfoldable pub next_in : List ℕ → Walk → Next
+next_in s w = pick (is_full_of (figures_in w.report)) Next.Done (next_of s w.at)
 
 -- A step to the line that comes next: I and J lines set or spoil their tables, and the report takes every line,
 -- accepted or not. Done changes nothing.
-unfoldable pub stepTo : List ℕ → Walk → Next → Step
-stepTo s w (Next.Line cut after) = record {
-  taken = Line cut.line (reading_of (readLine (bytes_of cut.line s)));
+unfoldable pub step_to : List ℕ → Walk → Next → Step
+step_to s w (Next.Line cut after) = record {
+  taken = Line cut.line (reading_of (read_line_of (bytes_of cut.line s)));
   walk = record {
     at = after;
-    held = tablesAfter w.held (bytes_of cut.line s);
-    report = reportAfter w.report w.at.place (readLine (bytes_of cut.line s));
+    held = tables_after w.held (bytes_of cut.line s);
+    report = report_after w.report w.at.place (read_line_of (bytes_of cut.line s));
   };
 }
-stepTo s w Next.Done = record { taken = Done; walk = w }
+step_to s w Next.Done = record { taken = Done; walk = w }
 
 -- One step from where the walk stands.
 unfoldable pub step_of : List ℕ → Walk → Step
-step_of s w = stepTo s w (nextIn s w)
+step_of s w = step_to s w (next_in s w)
 
 -- Where a walk is done: at or past the log's end; at the largest line number; and where a count of its report is at its
 -- largest, of lines, of accepted B lines or of an answer.
-unfoldable pub isDone : List ℕ → Walk → Bool
-isDone s w = (length s ≤? w.at.place) ∨? (largest ≤? w.at.number) ∨? isFull (figuresIn w.report)
+unfoldable pub is_done : List ℕ → Walk → Bool
+is_done s w = (length s ≤? w.at.place) ∨? (largest ≤? w.at.number) ∨? is_full_of (figures_in w.report)

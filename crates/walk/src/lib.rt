@@ -3,8 +3,8 @@
 pub mod turn;
 
 ghost use Rattle.std.specs.Prelude.{◌≡◌};
-ghost use Rattle.part.specs.Part.{foundRes, shown, Shows};
-ghost use Rattle.held.specs.Held.{lookUp};
+ghost use Rattle.part.specs.Part.{found_res, shown, Shows};
+ghost use Rattle.held.specs.Held.{look_up};
 ghost use Rattle.walk.specs.Walk.{fresh, step_of};
 
 use b_record::BRecord;
@@ -18,7 +18,7 @@ use records::{Reading, Record};
 use report::Report;
 use text::line::begins;
 
-#[derive(Drop)]
+#[derive(Clone, Copy)]
 pub struct Walk {
     pub held: Tables,
     pub report: Report,
@@ -26,14 +26,14 @@ pub struct Walk {
 }
 
 // The line that was read, as a part of the log, with its reading; or the walk is done.
-#[derive(Drop)]
+#[derive(Clone, Copy)]
 pub enum Taken {
     Line(Part, Reading),
     Done,
 }
 
 // The walk afterwards stands beside: an enum holds no array.
-#[derive(Drop)]
+#[derive(Clone, Copy)]
 pub struct Step {
     pub walk: Walk,
     pub taken: Taken,
@@ -115,7 +115,7 @@ impl Walk {
 
     // Lookup by name on a B line, in the I lines' table in force there: the walk is the one after that line's step.
     pub fn find_extension(self, fix: BRecord, name: Mnemonic, line: &[u8]) -> Found
-        ensures { foundRes result ≡ lookUp 35 fix.rest self.held.i name line.now }
+        ensures { found_res result ≡ look_up 35 fix.rest self.held.i name line.now }
     {
         let held = self.held.i;
         let rest = fix.rest;
@@ -125,7 +125,7 @@ impl Walk {
     // The value itself, as a part of the caller's own line.
     pub fn get_extension(self, fix: BRecord, name: Mnemonic, line: &[u8]) -> &[u8]
         ensures { Shows line.entry
-            (shown (lookUp 35 fix.rest self.held.i name line.now)) result }
+            (shown (look_up 35 fix.rest self.held.i name line.now)) result }
     {
         let held = self.held.i;
         let rest = fix.rest;
@@ -134,7 +134,7 @@ impl Walk {
 
     // Lookup by name on a K line, in the J lines' table in force there.
     pub fn find_k_extension(self, k: KRecord, name: Mnemonic, line: &[u8]) -> Found
-        ensures { foundRes result ≡ lookUp 7 k.rest self.held.j name line.now }
+        ensures { found_res result ≡ look_up 7 k.rest self.held.j name line.now }
     {
         let held = self.held.j;
         let rest = k.rest;
@@ -143,7 +143,7 @@ impl Walk {
 
     // The value itself, as a part of the caller's own line.
     pub fn get_k_extension(self, k: KRecord, name: Mnemonic, line: &[u8]) -> &[u8]
-        ensures { Shows line.entry (shown (lookUp 7 k.rest self.held.j name line.now)) result }
+        ensures { Shows line.entry (shown (look_up 7 k.rest self.held.j name line.now)) result }
     {
         let held = self.held.j;
         let rest = k.rest;

@@ -1,13 +1,13 @@
 // A turn of a loop over a log: the line at a place, cut and read.
 ghost use Rattle.std.specs.Prelude.{◌≡◌};
-ghost use Rattle.walk.specs.Turn.{gotAt};
+ghost use Rattle.walk.specs.Turn.{got_at};
 
-use log::cut_at;
+use igc_log::cut_at;
 use part::Part;
 use records::{Reading, Record};
 
 // What was read, of which part of the log, and the place after it.
-#[derive(Drop)]
+#[derive(Clone, Copy)]
 pub struct Got {
     pub reading: Reading,
     pub line: Part,
@@ -16,7 +16,7 @@ pub struct Got {
 
 // The line that begins at a place, read; past the log's end it is empty.
 pub fn read_at(log: &[u8], at: usize) -> Got
-    ensures { result ≡ gotAt at log.now }
+    ensures { result ≡ got_at at log.now }
 {
     let cut = cut_at(log, at);
     let line = cut.line;

@@ -1,11 +1,11 @@
 -- Whatever the pieces of a log were, what is written for them is the text of the whole log; and what its lines raise is
 -- said by the reports of the lines before them.
 use Rattle.text.specs.Prelude.{ℕ, ◌+◌, ◌≤◌, ◌≡◌, true, List, [], ◌∷◌, ◌++◌, length, take, drop, largest}
-use Rattle.log.specs.Log.{readings}
-use Rattle.log.specs.Pieces.{joined, Whole}
-use Rattle.report.specs.Report.{reportOf}
-use Rattle.watch_text.specs.Watch.{Watch-read, watcher, risen, watchText}
-use Rattle.watch_text.specs.Feed.{view, atFirst, isReady, Watches}
+use Rattle.igc_log.specs.Log.{readings}
+use Rattle.igc_log.specs.Pieces.{joined, Whole}
+use Rattle.report.specs.Report.{report_of}
+use Rattle.watch_text.specs.Watch.{Watch-read, watcher, risen, watch_text_of}
+use Rattle.watch_text.specs.Feed.{view, at_first_of, is_ready_of, Watches}
 use Rattle.watch_text.specs.declared.{Watch.Watch, Watched.Watched}
 
 -- Calls one after the other, from w to w': the bytes that were taken at each, and the texts, in a row.
@@ -16,17 +16,17 @@ pub data Rows : Watch → List (List ℕ) → Watch → List ℕ → Type 0 wher
 
 -- What calls in a row write, whatever the pieces, is the text of the whole log.
 pub record InPieces : Type 0 where
-  pub whole : {w w' : Watch} {ps : List (List ℕ)} {t : List ℕ} → view w ≡ atFirst →
-      Rows w ps w' t → Whole ps → t ≡ watchText (joined ps)
+  pub whole : {w w' : Watch} {ps : List (List ℕ)} {t : List ℕ} → view w ≡ at_first_of →
+      Rows w ps w' t → Whole ps → t ≡ watch_text_of (joined ps)
   -- Counts pass 64 bits of no log that has fewer than 2 ^ 64 bytes.
-  pub at_first : (n : ℕ) → n ≤ largest → isReady atFirst n ≡ true
+  pub at_first : (n : ℕ) → n ≤ largest → is_ready_of at_first_of n ≡ true
   pub later : (w : Watch) (s b b' : List ℕ) (r : Watched) (n : ℕ) → Watches w s b b' r →
-      isReady (view w) (r.taken + n) ≡ true → isReady (view r.watch) n ≡ true
+      is_ready_of (view w) (r.taken + n) ≡ true → is_ready_of (view r.watch) n ≡ true
 
 -- Line k + 1 of a log holds the report of the first k + 1 readings, and raises what stands higher in it than in the
 -- report of the first k.
 pub record Rises : Type 0 where
-  pub at-line : (log : List ℕ) (k : ℕ) (x : Watch-read) (later : List Watch-read) → length log ≤ largest →
+  pub at_line : (log : List ℕ) (k : ℕ) (x : Watch-read) (later : List Watch-read) → length log ≤ largest →
       let xs = readings watcher log in
       drop k xs ≡ x ∷ later →
-      (x.number ≡ k + 1) × (x.held ≡ risen (reportOf (take k xs)) (reportOf (take (k + 1) xs)))
+      (x.number ≡ k + 1) × (x.held ≡ risen (report_of (take k xs)) (report_of (take (k + 1) xs)))

@@ -1,13 +1,13 @@
 -- A log watched: a line wherever the running summit of a datum rises.
 use Rattle.text.specs.Prelude.{ℕ, List, ◌++◌, Res}
-use Rattle.records.specs.Record.{readLine}
+use Rattle.records.specs.Record.{read_line_of}
 use Rattle.records.specs.declared.Record.{Record}
-use Rattle.log.specs.Log.{Reader, LineRead, readings}
-use Rattle.log.specs.Fold.{texts}
+use Rattle.igc_log.specs.Log.{Reader, LineRead, readings}
+use Rattle.igc_log.specs.Fold.{texts}
 use Rattle.report.specs.Figures.{Figures, empty}
-use Rattle.report.specs.Report.{belowPressure, belowGps, takenBy}
+use Rattle.report.specs.Report.{below_pressure, below_gps, taken_by}
 use Rattle.report.specs.declared.{pressure.PressurePeak.PressurePeak, gps.GpsPeak.GpsPeak}
-use Rattle.rise_text.specs.Rise.{raised, pressureRise, gpsRise, pressureLine, gpsLine}
+use Rattle.rise_text.specs.Rise.{raised, pressure_rise, gps_rise, pressure_line, gps_line}
 use Rattle.rise_text.specs.declared.{pressure.PressureRise.PressureRise, gps.GpsRise.GpsRise}
 
 -- ---- what is carried
@@ -19,23 +19,23 @@ pub record Running : Type 0 where
   pub gps : GpsRise
 
 -- Before the first line.
-unfoldable pub nothingRaised : Running
-nothingRaised = record { report = empty; pressure = PressureRise.Same; gps = GpsRise.Same }
+unfoldable pub nothing_raised : Running
+nothing_raised = record { report = empty; pressure = PressureRise.Same; gps = GpsRise.Same }
 
 -- After a line that brought the one report to the other.
 unfoldable pub risen : Figures PressurePeak GpsPeak → Figures PressurePeak GpsPeak → Running
 risen before now = record {
   report = now;
-  pressure = pressureRise (raised belowPressure before.pressure now.pressure);
-  gps = gpsRise (raised belowGps before.gps now.gps);
+  pressure = pressure_rise (raised below_pressure before.pressure now.pressure);
+  gps = gps_rise (raised below_gps before.gps now.gps);
 }
 
 -- The reader of lines that carries it.
 abbrev pub watcher : Reader (Res Record) Running
 watcher = record {
-  read = readLine;
-  after = λ p t s. risen t.report (takenBy t.report p (readLine s));
-  start = nothingRaised;
+  read = read_line_of;
+  after = λ p t s. risen t.report (taken_by t.report p (read_line_of s));
+  start = nothing_raised;
 }
 
 -- What it reads of one line.
@@ -45,13 +45,13 @@ Watch-read = LineRead (Res Record) Running
 -- ---- what is written of it
 
 -- Of line n, the pressure first.
-unfoldable pub watchLine : ℕ → Running → List ℕ
-watchLine n t = pressureLine n t.pressure ++ gpsLine n t.gps
+unfoldable pub watch_line : ℕ → Running → List ℕ
+watch_line n t = pressure_line n t.pressure ++ gps_line n t.gps
 
 -- The text of a reading.
-unfoldable pub watchLineOf : Watch-read → List ℕ
-watchLineOf x = watchLine x.number x.held
+unfoldable pub watch_line_of : Watch-read → List ℕ
+watch_line_of x = watch_line x.number x.held
 
 -- The whole text of a log.
-unfoldable pub watchText : List ℕ → List ℕ
-watchText log = texts watchLineOf (readings watcher log)
+unfoldable pub watch_text_of : List ℕ → List ℕ
+watch_text_of log = texts watch_line_of (readings watcher log)

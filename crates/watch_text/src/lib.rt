@@ -3,19 +3,19 @@
 ghost use Rattle.std.specs.Prelude.{◌≡◌, true, ◌+◌, ◌≤◌, ◌<◌, length};
 ghost use Rattle.text.specs.Word.{largest};
 ghost use Rattle.put.specs.Put.{Wrote};
-ghost use Rattle.log.specs.Fold.{pastLine};
-ghost use Rattle.watch_text.specs.Watch.{watcher, watchLine};
-ghost use Rattle.watch_text.specs.Feed.{runningIn, noStep, view, atFirst, isReady, WatchedOf, Watches};
+ghost use Rattle.igc_log.specs.Fold.{past_line};
+ghost use Rattle.watch_text.specs.Watch.{watcher, watch_line};
+ghost use Rattle.watch_text.specs.Feed.{running_in, no_step, view, at_first_of, is_ready_of, WatchedOf, Watches};
 
 use cursor::Cursor;
-use log::cut_at;
+use igc_log::cut_at;
 use records::Record;
 use report::Report;
 use rise_text::gps::GpsRise;
 use rise_text::pressure::PressureRise;
 
 // What goes from piece to piece: the report so far, where it stands, and what the last line raised.
-#[derive(Drop)]
+#[derive(Clone, Copy)]
 pub struct Watch {
     pub report: Report,
     pub at: Cursor,
@@ -24,7 +24,7 @@ pub struct Watch {
 }
 
 // What is carried on, how many bytes of the piece were taken, and where the text of their lines ends.
-#[derive(Drop)]
+#[derive(Clone, Copy)]
 pub struct Watched {
     pub watch: Watch,
     pub taken: usize,
@@ -34,7 +34,7 @@ pub struct Watched {
 impl Watch {
     // Before the first piece.
     pub fn new() -> Watch
-        ensures { view result ≡ atFirst }
+        ensures { view result ≡ at_first_of }
     {
         let report = Report::new();
         let at = Cursor::new();
@@ -49,7 +49,7 @@ impl Watch {
     // After a line more, which takes so many bytes.
     fn after(self, line: &[u8], width: usize) -> Watch
         requires { (self.at.place + width ≤ largest) × (self.at.number < largest) }
-        ensures { view result ≡ pastLine watcher noStep (view self) line.now width }
+        ensures { view result ≡ past_line watcher no_step (view self) line.now width }
     {
         let before = self.report;
         let reading = Record::parse_line(line);
@@ -72,7 +72,7 @@ impl Watch {
 
     // What the last line raised, the pressure first.
     fn put(self, buf: &mut [u8], at: usize) -> usize
-        ensures { Wrote buf.old at (watchLine self.at.number (runningIn self))
+        ensures { Wrote buf.old at (watch_line self.at.number (running_in self))
             buf.new result }
     {
         let pressure = self.pressure;
@@ -84,7 +84,7 @@ impl Watch {
 
     // Neither the place nor the number passes 64 bits over n bytes more.
     fn is_ready(self, n: usize) -> bool
-        ensures { result ≡ isReady (view self) n }
+        ensures { result ≡ is_ready_of (view self) n }
     {
         if 0xffff_ffff_ffff_ffff - self.at.place < n {
             return false;
@@ -95,7 +95,7 @@ impl Watch {
 
 // Lines are taken while their text has room.
 fn put_ready(w: Watch, lines: &[u8], buf: &mut [u8]) -> Watched
-    requires { isReady (view w) (length lines.now) ≡ true }
+    requires { is_ready_of (view w) (length lines.now) ≡ true }
     ensures { WatchedOf true w lines.now buf.old buf.new result }
 {
     let mut watch = w;

@@ -5,16 +5,16 @@ use Rattle.text.proofs.Prelude.{sets, take_all, never}
 use native.Mathlib.Nat.{zero-add}
 use lib.ListN.{take-append-drop}
 use lib.Seq.{take-add, take-take, drop-append-le, sets-eq}
-use Rattle.log.specs.Fold.{Carried, fed}
-use Rattle.log.proofs.Chunks.{closed_none, closed-append}
-use Rattle.log.proofs.Pieces.{fed-none, fed-append}
-use Rattle.log.proofs.Reached.{Reached}
-use Rattle.window.specs.Piece.{pieceEnd}
-use Rattle.window.proofs.Wholes.{whole-closed, whole_le}
-use Rattle.files.specs.Outcome.{hasFailed}
+use Rattle.igc_log.specs.Fold.{Carried, fed}
+use Rattle.igc_log.proofs.Chunks.{closed_none, closed_append}
+use Rattle.igc_log.proofs.Pieces.{fed_none, fed_append}
+use Rattle.igc_log.proofs.Reached.{Reached}
+use Rattle.window.specs.Piece.{piece_end_of}
+use Rattle.window.proofs.Wholes.{whole_closed, whole_le}
+use Rattle.files.specs.Outcome.{has_failed_of}
 use Rattle.files.specs.declared.{input.Came.Came, outcome.Outcome.Outcome}
 use Rattle.watch_text.specs.Watch.{Running, watcher}
-use Rattle.watch_text.specs.Feed.{Nothing, noStep, view, Watches}
+use Rattle.watch_text.specs.Feed.{Nothing, no_step, view, Watches}
 use Rattle.watch_text.specs.declared.{Watch.Watch, Watched.Watched}
 use Rattle.watch_text.proofs.Feeding.{called}
 use Rattle.watches.specs.Watching.{Written, Goes, Moves, Finished, Turned, stopped}
@@ -22,7 +22,7 @@ use Rattle.watches.specs.declared.{Went.Went, Turn.Turn}
 
 -- Up to a place of the lines, w made this.
 abbrev pub Writing : Watch → List ℕ → ℕ → Watch → Type 0
-Writing w lines from w' = Reached watcher noStep (view w) lines from (view w')
+Writing w lines from w' = Reached watcher no_step (view w) lines from (view w')
 
 module _ {w w' : Watch} {lines : List ℕ} {from : ℕ} (f : Writing w lines from w') where
   -- it went on to the end
@@ -36,24 +36,24 @@ module _ {w w' : Watch} {lines : List ℕ} {from : ℕ} (f : Writing w lines fro
   }
 
   -- it stopped, for a reason
-  pub failed : {o : Outcome} → hasFailed o ≡ true → Written w lines (record { watch = w'; taken = from; outcome = o })
+  pub failed : {o : Outcome} → has_failed_of o ≡ true → Written w lines (record { watch = w'; taken = from; outcome = o })
   failed e = record { inside = f.inside; whole = f.whole; carried = f.made; all = λ d. never e d }
 
 module _ (w w' : Watch) {lines : List ℕ} {from : ℕ} (f : Writing w lines from w') (b b' : List ℕ) (r : Watched)
     (i : from < length lines) (k : Watches w' (take (length lines - from) (drop from lines)) b b' r) where
   -- some lines more were put, and their text has room
-  pub put-more : Writing w lines (from + r.taken) r.watch × (r.end ≤ length b)
-  put-more =
+  pub put_more : Writing w lines (from + r.taken) r.watch × (r.end ≤ length b)
+  put_more =
       let d = length-drop from lines in
       let e : take (length lines - from) (drop from lines) ≡ drop from lines =
       take_all (length lines - from) (drop from lines) (omega arith) in
       let g = called w' (drop from lines) b b' r (rw e at k) in
       let t = take-add from r.taken lines in
       let c = f.whole i in
-      let all = fed-append watcher noStep (view w) (take from lines) (take r.taken (drop from lines)) c in
+      let all = fed_append watcher no_step (view w) (take from lines) (take r.taken (drop from lines)) c in
       let more : Writing w lines (from + r.taken) r.watch = record {
         inside = omega (arith, g.0.inside);
-        whole = λ h. rw t (closed-append _ _ c (g.0.whole (omega arith)));
+        whole = λ h. rw t (closed_append _ _ c (g.0.whole (omega arith)));
         made = g.0.made ∙ rw (f.made, t) (sym all);
       } in
       (more, g.2)
@@ -61,17 +61,17 @@ module _ (w w' : Watch) {lines : List ℕ} {from : ℕ} (f : Writing w lines fro
 -- ---- from read to read
 
 -- nothing went
-pub goes-nowhere : {c : Carried Running Nothing} {more : Bool} → Goes c c more
-goes-nowhere {c} = record { bytes = []; made = sym (fed-none watcher noStep c); whole = λ h. closed_none }
+pub goes_nowhere : {c : Carried Running Nothing} {more : Bool} → Goes c c more
+goes_nowhere {c} = record { bytes = []; made = sym (fed_none watcher no_step c); whole = λ h. closed_none }
 
 -- what went, where nothing is to follow
-pub goes-last-of : {c c' : Carried Running Nothing} {more : Bool} → Goes c c' more → Goes c c' false
-goes-last-of f = record { bytes = f.bytes; made = f.made; whole = λ h. never h refl }
+pub goes_last_of : {c c' : Carried Running Nothing} {more : Bool} → Goes c c' more → Goes c c' false
+goes_last_of f = record { bytes = f.bytes; made = f.made; whole = λ h. never h refl }
 
 -- and where more is, as the code tests it
-pub goes-more : {c c' : Carried Running Nothing} {more : Bool} → not more ≡ false → Goes c c' more → Goes c c' true
-goes-more {more = true} h f = f
-goes-more {more = false} h f = never refl h
+pub goes_more : {c c' : Carried Running Nothing} {more : Bool} → not more ≡ false → Goes c c' more → Goes c c' true
+goes_more {more = true} h f = f
+goes_more {more = false} h f = never refl h
 
 -- some bytes went, and then others
 pub goes_on : {c₀ c c' : Carried Running Nothing} {more : Bool} → Goes c₀ c true → Goes c c' more → Goes c₀ c' more
@@ -79,8 +79,8 @@ goes_on {c₀} f g =
     let w = f.whole refl in
     record {
       bytes = f.bytes ++ g.bytes;
-      made = g.made ∙ rw f.made (sym (fed-append watcher noStep c₀ f.bytes g.bytes w));
-      whole = λ h. closed-append _ _ w (g.whole h);
+      made = g.made ∙ rw f.made (sym (fed_append watcher no_step c₀ f.bytes g.bytes w));
+      whole = λ h. closed_append _ _ w (g.whole h);
     }
 
 module _ {w : Watch} {lines : List ℕ} {r : Went} (f : Written w lines r) where
@@ -89,8 +89,8 @@ module _ {w : Watch} {lines : List ℕ} {r : Went} (f : Written w lines r) where
   goes_last = record { bytes = take r.taken lines; made = f.carried; whole = λ h. never h refl }
 
   -- where nothing went wrong that is all of them
-  all_made : hasFailed r.outcome ≡ false → view r.watch ≡ fed watcher noStep (view w) lines
-  all_made h = f.carried ∙ ap (fed watcher noStep (view w)) (take_all r.taken lines (omega (arith, f.all h)))
+  all_made : has_failed_of r.outcome ≡ false → view r.watch ≡ fed watcher no_step (view w) lines
+  all_made h = f.carried ∙ ap (fed watcher no_step (view w)) (take_all r.taken lines (omega (arith, f.all h)))
 
   -- the end
   pub finished : {t : Turn} → t ≡ stopped r.watch r.outcome → Finished w lines t
@@ -100,9 +100,9 @@ module _ {w : Watch} {lines : List ℕ} {r : Went} (f : Written w lines r) where
 -- ---- the bytes at the window's front
 
 -- what is written over the first n bytes of a window, as a part of it, is written over the window
-front-part : (win t : List ℕ) (n : ℕ) → n ≤ length win → length t ≤ n →
+front_part : (win t : List ℕ) (n : ℕ) → n ≤ length win → length t ≤ n →
     sets (take n win) 0 t ++ drop n win ≡ sets win 0 t
-front-part win t n h k =
+front_part win t n h k =
     let l = length-take-le n win h in
     let part : sets (take n win) 0 t ≡ t ++ drop (length t) (take n win) =
     sets-eq t (take n win) 0 (omega (arith, l)) ∙ rw zero-add in
@@ -114,26 +114,26 @@ front-part win t n h k =
 
 -- all their whole lines went, and the others were kept
 pub moved : {w : Watch} {win win' : List ℕ} {r : Went} {n whole fill : ℕ} {o : Outcome} → n ≤ length win →
-    whole ≡ pieceEnd false (take n win) → Written w (take whole win) r → hasFailed r.outcome ≡ false →
+    whole ≡ piece_end_of false (take n win) → Written w (take whole win) r → has_failed_of r.outcome ≡ false →
     fill ≡ length (take n win) - whole → win' ≡ sets (take n win) 0 (drop whole (take n win)) ++ drop n win →
     Moves w win win' (take n win) (record { watch = r.watch; fill = fill; more = true; outcome = o })
-unfolding pieceEnd
+unfolding piece_end_of
 moved {w} {win} {win'} {r} {n} {whole} inside e f h k l =
     let front = take n win in
     let long = length-take-le n win inside in
     let le : whole ≤ n = omega (arith, e, whole_le front) in
     let m = all_made (rw (sym (take-take whole n win le)) at f) h in
     let rest : win' ≡ sets win 0 (drop whole front) =
-    l ∙ front-part win (drop whole front) n inside (omega (arith, length-drop whole front)) in (
-      record { bytes = take (pieceEnd false front) front; made = rw e at m; whole = λ _. whole-closed front },
+    l ∙ front_part win (drop whole front) n inside (omega (arith, length-drop whole front)) in (
+      record { bytes = take (piece_end_of false front) front; made = rw e at m; whole = λ _. whole_closed front },
       λ _. record { made = rw e at m; fill = rw e at k; rest = rw e at rest },
     )
 
 -- a turn, by what came
-pub goes-turned : (c : Came) (w : Watch) (win : List ℕ) (n : ℕ) (win' : List ℕ) (r : Turn) →
+pub goes_turned : (c : Came) (w : Watch) (win : List ℕ) (n : ℕ) (win' : List ℕ) (r : Turn) →
     Turned c w win n win' r → Goes (view w) (view r.watch) r.more
 unfolding stopped
-goes-turned (Came.Bytes k) w win n win' r t = t.0
-goes-turned Came.Ended w win n win' r t = rw t.last t.goes
-goes-turned Came.NoRoom w win n win' r t = rw t goes-nowhere
-goes-turned Came.Failed w win n win' r t = rw t goes-nowhere
+goes_turned (Came.Bytes k) w win n win' r t = t.0
+goes_turned Came.Ended w win n win' r t = rw t.last t.goes
+goes_turned Came.NoRoom w win n win' r t = rw t goes_nowhere
+goes_turned Came.Failed w win n win' r t = rw t goes_nowhere

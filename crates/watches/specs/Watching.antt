@@ -1,13 +1,13 @@
 -- What was written of a log that is watched while its bytes come, and what is carried on.
 use Rattle.text.specs.Prelude.{ℕ, ◌+◌, ◌-◌, ◌≤◌, ◌<◌, ◌≡◌, Bool, true, false, List, length, take, drop}
 use Rattle.std.proofs.lemmas.List.Edits.{sets}
-use Rattle.log.specs.Log.{closed}
-use Rattle.log.specs.Fold.{Carried, fed}
-use Rattle.window.specs.Piece.{pieceEnd}
-use Rattle.files.specs.Outcome.{hasFailed}
+use Rattle.igc_log.specs.Log.{closed}
+use Rattle.igc_log.specs.Fold.{Carried, fed}
+use Rattle.window.specs.Piece.{piece_end_of}
+use Rattle.files.specs.Outcome.{has_failed_of}
 use Rattle.files.specs.declared.{input.Came.Came, outcome.Outcome.Outcome}
 use Rattle.watch_text.specs.Watch.{Running, watcher}
-use Rattle.watch_text.specs.Feed.{Nothing, noStep, view}
+use Rattle.watch_text.specs.Feed.{Nothing, no_step, view}
 use Rattle.watch_text.specs.declared.Watch.{Watch}
 use Rattle.watches.specs.declared.{Went.Went, Turn.Turn}
 
@@ -15,19 +15,19 @@ use Rattle.watches.specs.declared.{Went.Went, Turn.Turn}
 pub record Written (w : Watch) (lines : List ℕ) (r : Went) : Type 0 where
   pub inside : r.taken ≤ length lines
   pub whole : r.taken < length lines → closed (take r.taken lines) ≡ true
-  pub carried : view r.watch ≡ fed watcher noStep (view w) (take r.taken lines)
-  pub all : hasFailed r.outcome ≡ false → r.taken ≡ length lines
+  pub carried : view r.watch ≡ fed watcher no_step (view w) (take r.taken lines)
+  pub all : has_failed_of r.outcome ≡ false → r.taken ≡ length lines
 
 -- From c to c': what is carried on is what some bytes make of c, and where more is to follow these are whole lines.
 pub record Goes (c c' : Carried Running Nothing) (more : Bool) : Type 0 where
   pub bytes : List ℕ
-  pub made : c' ≡ fed watcher noStep c bytes
+  pub made : c' ≡ fed watcher no_step c bytes
   pub whole : more ≡ true → closed bytes ≡ true
 
 -- Some bytes stand at the front of the window, of which n are whole lines: these were taken, and the others stand in
 -- front now, as many as they are.
 pub record Moved (w : Watch) (win win' front : List ℕ) (n : ℕ) (r : Turn) : Type 0 where
-  pub made : view r.watch ≡ fed watcher noStep (view w) (take n front)
+  pub made : view r.watch ≡ fed watcher no_step (view w) (take n front)
   pub fill : r.fill ≡ length front - n
   pub rest : win' ≡ sets win 0 (drop n front)
 
@@ -35,13 +35,13 @@ pub record Moved (w : Watch) (win win' front : List ℕ) (n : ℕ) (r : Turn) : 
 abbrev pub Moves : Watch → List ℕ → List ℕ → List ℕ → Turn → Type 0
 Moves w win win' front r =
     Goes (view w) (view r.watch) r.more
-    × (r.more ≡ true → Moved w win win' front (pieceEnd false front) r)
+    × (r.more ≡ true → Moved w win win' front (piece_end_of false front) r)
 
 -- The last lines were written, all of them if nothing went wrong.
 pub record Finished (w : Watch) (lines : List ℕ) (r : Turn) : Type 0 where
   pub goes : Goes (view w) (view r.watch) false
   pub last : r.more ≡ false
-  pub made : hasFailed r.outcome ≡ false → view r.watch ≡ fed watcher noStep (view w) lines
+  pub made : has_failed_of r.outcome ≡ false → view r.watch ≡ fed watcher no_step (view w) lines
 
 -- No read is to follow.
 unfoldable pub stopped : Watch → Outcome → Turn

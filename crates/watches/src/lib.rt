@@ -2,7 +2,7 @@
 // that has no end yet waits for it, or for the end of the input.
 ghost use Rattle.std.specs.Prelude.{◌≡◌, false, ◌≤◌, length, take};
 ghost use Rattle.files.specs.Input.{Behind};
-ghost use Rattle.watch_text.specs.Feed.{view, atFirst};
+ghost use Rattle.watch_text.specs.Feed.{view, at_first_of};
 ghost use Rattle.watches.specs.Watching.{Written, Goes, Moves, Finished, Turned, stopped};
 
 use files::input::{Came, is_dash, open, read_more};
@@ -13,7 +13,7 @@ use watch_text::{Watch, put_lines};
 use window::{keep_rest, piece_end};
 
 // What is carried on, how many bytes were written, and what went wrong.
-#[derive(Drop)]
+#[derive(Clone, Copy)]
 struct Went {
     watch: Watch,
     taken: usize,
@@ -22,7 +22,7 @@ struct Went {
 
 // What goes from read to read: what is carried, how many bytes wait at the window's front, and whether a read is to
 // follow.
-#[derive(Drop)]
+#[derive(Clone, Copy)]
 struct Turn {
     watch: Watch,
     fill: usize,
@@ -31,7 +31,7 @@ struct Turn {
 }
 
 // What was carried at last, and how it ended.
-#[derive(Drop)]
+#[derive(Clone, Copy)]
 struct Ended {
     watch: Watch,
     outcome: Outcome,
@@ -129,7 +129,7 @@ fn one_turn(came: Came, w: Watch, win: &mut [u8], fill: usize, to: i32, out: &mu
 
 // Reads a log as its bytes come, and writes where its summits rise.
 fn run(from: i32, win: &mut [u8], to: i32, out: &mut [u8]) -> Ended
-    ensures { Goes atFirst (view result.watch) false }
+    ensures { Goes at_first_of (view result.watch) false }
 {
     let mut watch = Watch::new();
     let mut fill = 0;

@@ -17,8 +17,8 @@ pub record Moving (w₀ : List ℕ) (from i : ℕ) (w : List ℕ) : Type 0 where
   pub content : w ≡ paste w₀ 0 (drop from w₀) i
 
 -- before the first
-pub at-start : {w : List ℕ} {from : ℕ} → from ≤ length w → Moving w from 0 w
-at-start {w} {from} h = record { long = refl; inside = omega arith; content = paste-zero w 0 (drop from w) }
+pub at_start : {w : List ℕ} {from : ℕ} → from ≤ length w → Moving w from 0 w
+at_start {w} {from} h = record { long = refl; inside = omega arith; content = paste-zero w 0 (drop from w) }
 
 module _ {w₀ w : List ℕ} {from i : ℕ} (m : Moving w₀ from i w) where
   -- the byte to move next is as it was
@@ -29,8 +29,8 @@ module _ {w₀ w : List ℕ} {from i : ℕ} (m : Moving w₀ from i w) where
       rw (get_or-drop from w₀ i 0, e, ← get_or-drop (0 + i) w from 0, m.content, b, get_or-drop (0 + i) w₀ from 0)
 
   -- with it one more is moved
-  pub next-moved : from + i < length w₀ → Moving w₀ from (i + 1) (set w i (get_or w (from + i) 0))
-  next-moved h =
+  pub next_moved : from + i < length w₀ → Moving w₀ from (i + 1) (set w i (get_or w (from + i) 0))
+  next_moved h =
       let p = paste-suc w₀ 0 (drop from w₀) i 0 (omega arith) (omega (arith, length-drop from w₀)) in
       record {
         long = length-set w i _ ∙ m.long;

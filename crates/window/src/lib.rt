@@ -1,11 +1,11 @@
 // A window on a log that is read in pieces: how much of it is whole lines, and what of it waits for the next read.
 ghost use Rattle.std.specs.Prelude.{◌≡◌, ◌-◌, length, drop};
 ghost use Rattle.std.proofs.lemmas.List.Edits.{sets};
-ghost use Rattle.window.specs.Piece.{wholeLength, pieceEnd};
+ghost use Rattle.window.specs.Piece.{whole_length_of, piece_end_of};
 
 // The bytes up to the last LF, and that LF.
 fn whole_length(piece: &[u8]) -> usize
-    ensures { result ≡ wholeLength piece.now }
+    ensures { result ≡ whole_length_of piece.now }
 {
     let mut i = piece.len();
     while 0 < i {
@@ -19,7 +19,7 @@ fn whole_length(piece: &[u8]) -> usize
 
 // How much of a piece can be read: of the last one all, of another its whole lines.
 pub fn piece_end(piece: &[u8], last: bool) -> usize
-    ensures { result ≡ pieceEnd last piece.now }
+    ensures { result ≡ piece_end_of last piece.now }
 {
     if last {
         return piece.len();

@@ -1,9 +1,9 @@
 use Rattle.text.specs.Prelude.{◌≡◌}
-use Rattle.text.proofs.Prelude.{needs, arith, sym, ◌∙◌}
+use Rattle.text.proofs.Prelude.{rules, arith, sym, ◌∙◌}
 use Rattle.put.proofs.Writing.{wrote_nothing}
 use Rattle.manufacturer.specs.Maker.{triple_of}
 use Rattle.manufacturer.specs.declared.MaybeTriple.TheVariants.{Missing, Triple}
-use Rattle.a_record.specs.ARecord.{tripleText}
+use Rattle.a_record.specs.ARecord.{triple_text}
 use Rattle.a_record.proofs.put_triple.Statement.{statement}
 use Rattle.a_record.proofs.put_triple.Tie as tie
 
@@ -13,11 +13,11 @@ three c = sym c.before.before.to-triple-char.ensures ∙ c.triple.given.1
 none : (c : tie.After-enum-told) → triple_of c.before.before.before.before.args.m ≡ Missing
 none c = sym c.before.before.to-triple-char.ensures ∙ c.enum_told.given.1
 
-pub put-triple-spec : {M : Type 1} → statement M
-unfolding tripleText
-put-triple-spec =
+pub put_triple_spec : {M : Type 1} → statement M
+unfolding triple_text
+put_triple_spec =
     tie.close
     (tie.spec
-    (search needs) (search needs) (search needs) (search needs) (search needs)
-    (λ c. rw (three (search needs)) (search needs))
+    (search rules) (search rules) (search rules) (search rules) (search rules)
+    (λ c. rw (three (search rules)) (search rules))
     (λ c. rw (none c) (wrote_nothing _ _ (omega arith) (omega arith))))

@@ -1,208 +1,208 @@
-use Rattle.text.specs.Prelude.{ℕ, ◌≤◌, ◌≡◌, true, List, length, now, ok, pick, byte, cut, columns}
-use Rattle.text.proofs.Prelude.{needs, arith, refl, ◌∙◌, came, on, first, second, so-true, so_false}
+use Rattle.text.specs.Prelude.{ℕ, ◌≤◌, ◌≡◌, true, List, length, ok, pick, byte, cut, columns}
+use Rattle.text.proofs.Prelude.{rules, arith, refl, ◌∙◌, came, on, first, second, so_true, so_false}
 use Rattle.text.proofs.Reading.{Written}
-use Rattle.field.specs.Field.{isAscii}
-use Rattle.time.specs.Time.{readTime, timeRes}
-use Rattle.coord.specs.Coord.{latitudeRes, longitudeRes}
-use Rattle.b_record.specs.BRecord.{valid_of, validRes, readFix}
-use Rattle.b_quick.specs.Quick.{plainDigits, fixRead}
+use Rattle.field.specs.Field.{is_ascii_of}
+use Rattle.time.specs.Time.{read_time_of, time_res}
+use Rattle.coord.specs.Coord.{latitude_res, longitude_res}
+use Rattle.b_record.specs.BRecord.{valid_of, valid_res, read_fix}
+use Rattle.b_quick.specs.Quick.{plain_digits, fix_read}
 use Rattle.b_quick.specs.declared.Quick.TheVariants.{No}
-use Rattle.b_quick.proofs.Numbers.{Numbers, Number, plain-numbers, at-most-five, digits-written, number-within}
-use Rattle.b_quick.proofs.Numbers.{two-digits-fit, latitudeOf, longitudeOf, time-at, latitude-at, longitude-at}
-use Rattle.b_quick.proofs.Numbers.{position_at, heights-at}
-use Rattle.b_quick.proofs.Refusing.{Refuses, refuses, fix-found, fix-refused, no-time, no-latitude, no-longitude}
-use Rattle.b_quick.proofs.Refusing.{no-letter, pressure-over, gps-over, lat-minutes-over, lon-degrees-over}
-use Rattle.b_quick.proofs.Refusing.{lon-minutes-over}
+use Rattle.b_quick.proofs.Numbers.{Numbers, Number, plain_numbers, at_most_five, digits_written, number_within}
+use Rattle.b_quick.proofs.Numbers.{two_digits_fit, latitude_of, longitude_of, time_at_lem, latitude_at, longitude_at}
+use Rattle.b_quick.proofs.Numbers.{position_at, heights_at}
+use Rattle.b_quick.proofs.Refusing.{Refuses, refuses, fix_found, fix_refused, no_time, no_latitude, no_longitude}
+use Rattle.b_quick.proofs.Refusing.{no_letter, pressure_over_lem, gps_over_lem, lat_minutes_over, lon_degrees_over}
+use Rattle.b_quick.proofs.Refusing.{lon_minutes_over}
 use Rattle.b_quick.proofs.plain_fix.Statement.{statement}
 use Rattle.b_quick.proofs.plain_fix.Tie as tie
 
 -- ---- a line of plain digits
 
 abbrev line : tie.Else1 → List ℕ
-line c = now c.before.before.before.args.line
+line c = c.before.before.before.args.line.now
 
 -- it is long enough and ASCII,
-whole : (c : tie.Else1) → (35 ≤ length (line c)) × (isAscii (line c) ≡ true)
+whole : (c : tie.Else1) → (35 ≤ length (line c)) × (is_ascii_of (line c) ≡ true)
 whole c = c.before.before.before.requires
 
 -- of plain digits
-plain : (c : tie.Else1) → plainDigits (line c) ≡ true
-plain c = so-true c.before.plain.ensures c.if1.false
+plain : (c : tie.Else1) → plain_digits (line c) ≡ true
+plain c = so_true c.before.plain.ensures c.if1.false
 
 -- and so each number is of digits
 digits : (c : tie.Else1) → Numbers (line c)
-digits c = plain-numbers _ (whole c).0 (plain c)
+digits c = plain_numbers _ (whole c).0 (plain c)
 
 -- No is right where the fix's reading refuses
 refused : (c : tie.Else1) →
-    Refuses (readFix (line c)) → No ≡ pick (plainDigits (line c)) (fixRead (readFix (line c))) No
-refused c r = first _ (plain c) (fix-refused r)
+    Refuses (read_fix (line c)) → No ≡ pick (plain_digits (line c)) (fix_read (read_fix (line c))) No
+refused c r = first _ (plain c) (fix_refused r)
 
 -- places on the way: no search reaches from the end to the start
 abbrev tested : tie.After-from-hms → tie.Else6
-tested c = search needs
+tested c = search rules
 
 abbrev begun : tie.After-from-hms → tie.Else1
-begun c = search needs
+begun c = search rules
 
 -- ---- its numbers
 
 -- those that are tested
-lat-minutes : (c : tie.After-value) → Written (cut 9 14 (line (search needs))) c.value.result
+lat_minutes : (c : tie.After-value) → Written (cut 9 14 (line (search rules))) c.value.result
 unfolding cut
-lat-minutes c = digits-written (digits (search needs)).lat-minutes c.value.ensures
+lat_minutes c = digits_written (digits (search rules)).lat_minutes c.value.ensures
 
-lon-degrees : (c : tie.After-value2) → Written (cut 15 18 (line (search needs))) c.value2.result
+lon_degrees : (c : tie.After-value2) → Written (cut 15 18 (line (search rules))) c.value2.result
 unfolding cut
-lon-degrees c = digits-written (digits (search needs)).lon-degrees c.value2.ensures
+lon_degrees c = digits_written (digits (search rules)).lon_degrees c.value2.ensures
 
-lon-minutes : (c : tie.After-value3) → Written (cut 18 23 (line (search needs))) c.value3.result
+lon_minutes : (c : tie.After-value3) → Written (cut 18 23 (line (search rules))) c.value3.result
 unfolding cut
-lon-minutes c = digits-written (digits (search needs)).lon-minutes c.value3.ensures
+lon_minutes c = digits_written (digits (search rules)).lon_minutes c.value3.ensures
 
-pressure : (c : tie.After-value4) → Written (cut 25 30 (line (search needs))) c.value4.result
+pressure : (c : tie.After-value4) → Written (cut 25 30 (line (search rules))) c.value4.result
 unfolding cut
-pressure c = digits-written (digits (search needs)).pressure c.value4.ensures
+pressure c = digits_written (digits (search rules)).pressure c.value4.ensures
 
-gps : (c : tie.After-value5) → Written (cut 30 35 (line (search needs))) c.value5.result
+gps : (c : tie.After-value5) → Written (cut 30 35 (line (search rules))) c.value5.result
 unfolding cut
-gps c = digits-written (digits (search needs)).gps c.value5.ensures
+gps c = digits_written (digits (search rules)).gps c.value5.ensures
 
 -- those of two digits, which fit
-hours : (c : tie.After-value6) → Number 1 3 255 (line (search needs)) c.value6.result
+hours : (c : tie.After-value6) → Number 1 3 255 (line (search rules)) c.value6.result
 unfolding cut
-hours c = two-digits-fit (digits (search needs)).hours c.value6.ensures (omega arith)
+hours c = two_digits_fit (digits (search rules)).hours c.value6.ensures (omega arith)
 
-minutes : (c : tie.After-value7) → Number 3 5 255 (line (search needs)) c.value7.result
+minutes : (c : tie.After-value7) → Number 3 5 255 (line (search rules)) c.value7.result
 unfolding cut
-minutes c = two-digits-fit (digits (search needs)).minutes c.value7.ensures (omega arith)
+minutes c = two_digits_fit (digits (search rules)).minutes c.value7.ensures (omega arith)
 
-seconds : (c : tie.After-value8) → Number 5 7 255 (line (search needs)) c.value8.result
+seconds : (c : tie.After-value8) → Number 5 7 255 (line (search rules)) c.value8.result
 unfolding cut
-seconds c = two-digits-fit (digits (search needs)).seconds c.value8.ensures (omega arith)
+seconds c = two_digits_fit (digits (search rules)).seconds c.value8.ensures (omega arith)
 
-lat-degrees : (c : tie.After-value9) → Number 7 9 255 (line (search needs)) c.value9.result
+lat_degrees : (c : tie.After-value9) → Number 7 9 255 (line (search rules)) c.value9.result
 unfolding cut
-lat-degrees c = two-digits-fit (digits (search needs)).lat-degrees c.value9.ensures (omega arith)
+lat_degrees c = two_digits_fit (digits (search rules)).lat_degrees c.value9.ensures (omega arith)
 
 -- ---- its fields, as they are read
 
-time : (c : tie.After-from-hms) → timeRes c.from-hms.result ≡ columns 1 7 readTime (line (begun c))
+time : (c : tie.After-from-hms) → time_res c.from-hms.result ≡ columns 1 7 read_time_of (line (begun c))
 time c =
     c.from-hms.ensures
-    ∙ time-at _ (whole (begun c)) (hours (search needs)) (minutes (search needs)) (seconds (search needs))
+    ∙ time_at_lem _ (whole (begun c)) (hours (search rules)) (minutes (search rules)) (seconds (search rules))
 
-latitude : (c : tie.After-lettered) → latitudeRes c.lettered.result ≡ latitudeOf (line (begun (search needs)))
+latitude : (c : tie.After-lettered) → latitude_res c.lettered.result ≡ latitude_of (line (begun (search rules)))
 latitude c =
     c.lettered.ensures
-    ∙ latitude-at _ (whole (begun (search needs)))
-    (lat-degrees (search needs))
-    (number-within (lat-minutes (search needs)) (search needs))
+    ∙ latitude_at _ (whole (begun (search rules)))
+    (lat_degrees (search rules))
+    (number_within (lat_minutes (search rules)) (search rules))
 
-longitude : (c : tie.After-lettered2) → longitudeRes c.lettered2.result ≡ longitudeOf (line (begun (search needs)))
+longitude : (c : tie.After-lettered2) → longitude_res c.lettered2.result ≡ longitude_of (line (begun (search rules)))
 longitude c =
-    let fits = tested (search needs) in
+    let fits = tested (search rules) in
     c.lettered2.ensures
-    ∙ longitude-at _ (whole (begun (search needs)))
-    (number-within (lon-degrees (search needs)) (search needs))
-    (number-within (lon-minutes (search needs)) (search needs))
+    ∙ longitude_at _ (whole (begun (search rules)))
+    (number_within (lon_degrees (search rules)) (search rules))
+    (number_within (lon_minutes (search rules)) (search rules))
 
-letter : (c : tie.After-from-letter) → validRes c.from-letter.result
-    ≡ valid_of (byte 24 (line (begun (search needs))))
+letter : (c : tie.After-from-letter) → valid_res c.from-letter.result
+    ≡ valid_of (byte 24 (line (begun (search rules))))
 letter c = c.from-letter.ensures
 
 -- ---- its fields, as they were found
 
-found-time : (c : tie.After-time) → ok c.time.given.0.0 ≡ columns 1 7 readTime (line (begun (search needs)))
-found-time c = came timeRes c.time.given.1 (time (search needs))
+found_time : (c : tie.After-time) → ok c.time.given.0.0 ≡ columns 1 7 read_time_of (line (begun (search rules)))
+found_time c = came time_res c.time.given.1 (time (search rules))
 
-found-latitude : (c : tie.After-north) → ok c.north.given.0.0 ≡ latitudeOf (line (begun (search needs)))
-found-latitude c = came latitudeRes c.north.given.1 (latitude (search needs))
+found_latitude : (c : tie.After-north) → ok c.north.given.0.0 ≡ latitude_of (line (begun (search rules)))
+found_latitude c = came latitude_res c.north.given.1 (latitude (search rules))
 
-found-longitude : (c : tie.After-east) → ok c.east.given.0.0 ≡ longitudeOf (line (begun (search needs)))
-found-longitude c = came longitudeRes c.east.given.1 (longitude (search needs))
+found_longitude : (c : tie.After-east) → ok c.east.given.0.0 ≡ longitude_of (line (begun (search rules)))
+found_longitude c = came longitude_res c.east.given.1 (longitude (search rules))
 
-found-letter : (c : tie.After-fix-valid) →
-    ok c.fix-valid.given.0.0 ≡ valid_of (byte 24 (line (begun (search needs))))
-found-letter c = came validRes c.fix-valid.given.1 (letter (search needs))
+found_letter : (c : tie.After-fix-valid) →
+    ok c.fix-valid.given.0.0 ≡ valid_of (byte 24 (line (begun (search rules))))
+found_letter c = came valid_res c.fix-valid.given.1 (letter (search rules))
 
 -- all of them
 found : tie.Need-returns-10
-unfolding readFix
+unfolding read_fix
 found c =
-    first _ (plain (begun (search needs)))
-    (fix-found
-    (on _ (found-time (search needs))
+    first _ (plain (begun (search rules)))
+    (fix_found
+    (on _ (found_time (search rules))
     (on _
-    (position_at _ (whole (begun (search needs))) (found-latitude (search needs)) (found-longitude (search needs)))
-    (on _ (found-letter (search needs))
-    (let fits = tested (search needs) in
-    on _ (heights-at (number-within (pressure (search needs)) (search needs))
-    (number-within (gps (search needs)) (search needs)))
+    (position_at _ (whole (begun (search rules))) (found_latitude (search rules)) (found_longitude (search rules)))
+    (on _ (found_letter (search rules))
+    (let fits = tested (search rules) in
+    on _ (heights_at (number_within (pressure (search rules)) (search rules))
+    (number_within (gps (search rules)) (search rules)))
     (rw c.from-column.ensures))))))
 
 -- ---- or as they were refused, and then the fix is
 
-refused-time : (c : tie.After-enum-told) → Refuses (readFix (line (begun (search needs))))
-refused-time c = no-time _ (refuses (came timeRes c.enum_told.given.1 (time (search needs))))
+refused_time : (c : tie.After-enum-told) → Refuses (read_fix (line (begun (search rules))))
+refused_time c = no_time _ (refuses (came time_res c.enum_told.given.1 (time (search rules))))
 
-refused-latitude : (c : tie.After-enum-told2) → Refuses (readFix (line (begun (search needs))))
-refused-latitude c = no-latitude _ (refuses (came latitudeRes c.enum-told2.given.1 (latitude (search needs))))
+refused_latitude : (c : tie.After-enum-told2) → Refuses (read_fix (line (begun (search rules))))
+refused_latitude c = no_latitude _ (refuses (came latitude_res c.enum-told2.given.1 (latitude (search rules))))
 
-refused-longitude : (c : tie.After-enum-told3) → Refuses (readFix (line (begun (search needs))))
-refused-longitude c = no-longitude _ (refuses (came longitudeRes c.enum-told3.given.1 (longitude (search needs))))
+refused_longitude : (c : tie.After-enum-told3) → Refuses (read_fix (line (begun (search rules))))
+refused_longitude c = no_longitude _ (refuses (came longitude_res c.enum-told3.given.1 (longitude (search rules))))
 
-refused-letter : (c : tie.After-enum-told4) → Refuses (readFix (line (begun (search needs))))
-refused-letter c = no-letter _ (refuses (came validRes c.enum-told4.given.1 (letter (search needs))))
+refused_letter : (c : tie.After-enum-told4) → Refuses (read_fix (line (begun (search rules))))
+refused_letter c = no_letter _ (refuses (came valid_res c.enum-told4.given.1 (letter (search rules))))
 
-pub plain-fix-spec : {M : Type 1} → statement M
+pub plain_fix_spec : {M : Type 1} → statement M
 unfolding cut
-plain-fix-spec =
+plain_fix_spec =
     tie.close
     (tie.spec
-    (search needs)
+    (search rules)
     (λ c. second _ (so_false c.before.plain.ensures c.if1.true) refl)
-    (search needs) (search needs) (search needs)
-    (λ c κs. at-most-five (digits (search needs)).lat-minutes (omega arith))
-    (search needs) (search needs) (search needs)
-    (λ c κs. at-most-five (digits (search needs)).lon-degrees (omega arith))
-    (search needs) (search needs) (search needs)
-    (λ c κs. at-most-five (digits (search needs)).lon-minutes (omega arith))
-    (search needs) (search needs) (search needs)
-    (λ c κs. at-most-five (digits (search needs)).pressure (omega arith))
-    (search needs) (search needs) (search needs)
-    (λ c κs. at-most-five (digits (search needs)).gps (omega arith))
-    (λ c. refused (search needs) (lat-minutes-over _ (lat-minutes (search needs)) (search needs)))
-    (λ c. refused (search needs) (lon-degrees-over _ (lon-degrees (search needs)) (search needs)))
-    (λ c. refused (search needs) (lon-minutes-over _ (lon-minutes (search needs)) (search needs)))
-    (λ c. refused (search needs) (pressure-over _ (pressure (search needs)) (search needs)))
-    (λ c. refused (search needs) (gps-over _ (gps (search needs)) (search needs)))
-    (search needs) (search needs) (search needs)
-    (λ c κs. at-most-five (digits (search needs)).hours (omega arith))
+    (search rules) (search rules) (search rules)
+    (λ c κs. at_most_five (digits (search rules)).lat_minutes (omega arith))
+    (search rules) (search rules) (search rules)
+    (λ c κs. at_most_five (digits (search rules)).lon_degrees (omega arith))
+    (search rules) (search rules) (search rules)
+    (λ c κs. at_most_five (digits (search rules)).lon_minutes (omega arith))
+    (search rules) (search rules) (search rules)
+    (λ c κs. at_most_five (digits (search rules)).pressure (omega arith))
+    (search rules) (search rules) (search rules)
+    (λ c κs. at_most_five (digits (search rules)).gps (omega arith))
+    (λ c. refused (search rules) (lat_minutes_over _ (lat_minutes (search rules)) (search rules)))
+    (λ c. refused (search rules) (lon_degrees_over _ (lon_degrees (search rules)) (search rules)))
+    (λ c. refused (search rules) (lon_minutes_over _ (lon_minutes (search rules)) (search rules)))
+    (λ c. refused (search rules) (pressure_over_lem _ (pressure (search rules)) (search rules)))
+    (λ c. refused (search rules) (gps_over_lem _ (gps (search rules)) (search rules)))
+    (search rules) (search rules) (search rules)
+    (λ c κs. at_most_five (digits (search rules)).hours (omega arith))
     (λ c. omega (arith, (hours c).ranges))
-    (search needs) (search needs) (search needs)
-    (λ c κs. at-most-five (digits (search needs)).minutes (omega arith))
+    (search rules) (search rules) (search rules)
+    (λ c κs. at_most_five (digits (search rules)).minutes (omega arith))
     (λ c. omega (arith, (minutes c).ranges))
-    (search needs) (search needs) (search needs)
-    (λ c κs. at-most-five (digits (search needs)).seconds (omega arith))
+    (search rules) (search rules) (search rules)
+    (λ c κs. at_most_five (digits (search rules)).seconds (omega arith))
     (λ c. omega (arith, (seconds c).ranges))
-    (search needs) (search needs) (search needs)
-    (λ c. refused (begun (search needs)) (refused-time c))
-    (search needs) (search needs) (search needs)
-    (λ c κs. at-most-five (digits (search needs)).lat-degrees (omega arith))
-    (λ c. omega (arith, (lat-degrees c).ranges))
-    (search needs)
-    (λ c. omega (arith, whole (begun (search needs))))
-    (search needs) (search needs) (search needs)
-    (λ c. refused (begun (search needs)) (refused-latitude c))
-    (search needs) (search needs)
-    (λ c. omega (arith, whole (begun (search needs))))
-    (search needs) (search needs) (search needs)
-    (λ c. refused (begun (search needs)) (refused-longitude c))
-    (λ c. omega (arith, whole (begun (search needs))))
-    (search needs) (search needs) (search needs)
-    (λ c. let fits = tested (search needs) in record { sfits = omega arith })
-    (λ c. let fits = tested (search needs) in record { sfits = omega arith })
-    (search needs)
+    (search rules) (search rules) (search rules)
+    (λ c. refused (begun (search rules)) (refused_time c))
+    (search rules) (search rules) (search rules)
+    (λ c κs. at_most_five (digits (search rules)).lat_degrees (omega arith))
+    (λ c. omega (arith, (lat_degrees c).ranges))
+    (search rules)
+    (λ c. omega (arith, whole (begun (search rules))))
+    (search rules) (search rules) (search rules)
+    (λ c. refused (begun (search rules)) (refused_latitude c))
+    (search rules) (search rules)
+    (λ c. omega (arith, whole (begun (search rules))))
+    (search rules) (search rules) (search rules)
+    (λ c. refused (begun (search rules)) (refused_longitude c))
+    (λ c. omega (arith, whole (begun (search rules))))
+    (search rules) (search rules) (search rules)
+    (λ c. let fits = tested (search rules) in record { sfits = omega arith })
+    (λ c. let fits = tested (search rules) in record { sfits = omega arith })
+    (search rules)
     found
-    (λ c. refused (begun (search needs)) (refused-letter c)))
+    (λ c. refused (begun (search rules)) (refused_letter c)))

@@ -1,21 +1,21 @@
-use Rattle.text.specs.Prelude.{ℕ, ◌+◌, ◌-◌, ◌*◌, ◌≤◌, ◌≡◌, true, List, length, drop, get_or, now, allDigits, valueFrom}
-use Rattle.text.proofs.Prelude.{needs, arith, refl, drop-cons, drop-length}
+use Rattle.text.specs.Prelude.{ℕ, ◌+◌, ◌-◌, ◌*◌, ◌≤◌, ◌≡◌, true, List, length, drop, get_or, all_digits_of, value_from}
+use Rattle.text.proofs.Prelude.{rules, arith, refl, drop-cons, drop-length}
 use native.Mathlib.Numerals.{add-one}
-use Rattle.text.proofs.Decimal.{head-digit, value-ge, value-below}
+use Rattle.text.proofs.Decimal.{head_digit, value_ge, value_below}
 use Rattle.b_quick.proofs.value.Statement.{statement}
 use Rattle.b_quick.proofs.value.Tie as tie
 
 -- what is left has digits alone, and its value from here is the value of the whole
 abbrev invariant-loop : tie.invariant-loop
-invariant-loop digits v₀ i₀ v i = (i ≤ length digits) × (allDigits (drop i digits) ≡ true)
-    × (valueFrom v (drop i digits) ≡ valueFrom 0 digits)
+invariant-loop digits v₀ i₀ v i = (i ≤ length digits) × (all_digits_of (drop i digits) ≡ true)
+    × (value_from v (drop i digits) ≡ value_from 0 digits)
 
 abbrev decreases-loop : tie.decreases-loop
 decreases-loop digits v₀ i₀ v i = length digits - i
 
 module _ (c : tie.In-loop invariant-loop decreases-loop) where
   abbrev text : List ℕ
-  text = now c.before.before.args.digits
+  text = c.before.before.args.digits.now
 
   abbrev i : ℕ
   i = c.before.loop.i
@@ -23,12 +23,12 @@ module _ (c : tie.In-loop invariant-loop decreases-loop) where
   abbrev v : ℕ
   v = c.before.loop.v
 
-  here : (48 ≤ get_or text i 0) × (get_or text i 0 ≤ 57) × (allDigits (drop (i + 1) text) ≡ true)
-  here = rw add-one (head-digit _ _ (rw (drop-cons text i 0 (search needs)) at c.before.loop.invariant.1))
+  here : (48 ≤ get_or text i 0) × (get_or text i 0 ≤ 57) × (all_digits_of (drop (i + 1) text) ≡ true)
+  here = rw add-one (head_digit _ _ (rw (drop-cons text i 0 (search rules)) at c.before.loop.invariant.1))
 
-  next : valueFrom (v * 10 + (get_or text i 0 - 48)) (drop (i + 1) text) ≡ valueFrom 0 text
-  unfolding valueFrom
-  next = rw add-one (rw (drop-cons text i 0 (search needs)) at c.before.loop.invariant.2)
+  next : value_from (v * 10 + (get_or text i 0 - 48)) (drop (i + 1) text) ≡ value_from 0 text
+  unfolding value_from
+  next = rw add-one (rw (drop-cons text i 0 (search rules)) at c.before.loop.invariant.2)
 
   -- the value so far is at most that of the whole, which has five digits at most
   five : v * 10 + (get_or text i 0 - 48) ≤ 99999
@@ -36,16 +36,16 @@ module _ (c : tie.In-loop invariant-loop decreases-loop) where
       let p = c.before.before.requires in
       omega (
         arith,
-        rw next at (value-ge (v * 10 + (get_or text i 0 - 48)) (drop (i + 1) text)),
-        value-below 5 text p.0
+        rw next at (value_ge (v * 10 + (get_or text i 0 - 48)) (drop (i + 1) text)),
+        value_below 5 text p.0
             p.1,
       )
 
 ends : tie.Need-returns invariant-loop decreases-loop
-unfolding valueFrom
+unfolding value_from
 ends c =
     let l = c.before.loop in
-    let e : l.i ≡ length (now c.before.before.args.digits) = search needs in
+    let e : l.i ≡ length (c.before.before.args.digits.now) = search rules in
     rw (e, drop-length) at l.invariant.2
 
 pub value_spec : {M : Type 1} → statement M
@@ -54,12 +54,12 @@ value_spec =
     (tie.spec
     invariant-loop
     decreases-loop
-    (λ c. (search needs, c.requires.0, refl))
+    (λ c. (search rules, c.requires.0, refl))
     (λ c. omega (arith, five c))
-    (search needs)
+    (search rules)
     (λ c. omega (arith, (here c.before).1))
     (λ c. omega (arith, (here c.before).0))
     (λ c. omega (arith, five c.before))
-    (search needs) (search needs)
-    (λ c. (search needs, (here c.before).2, next c.before))
+    (search rules) (search rules)
+    (λ c. (search rules, (here c.before).2, next c.before))
     ends)

@@ -1,26 +1,26 @@
 use Rattle.text.specs.Prelude.{◌^◌, ◌<◌, ◌≡◌}
-use Rattle.text.proofs.Prelude.{needs}
-use Rattle.bench_loops.specs.Timed.{above, summed, ofRange}
-use Rattle.bench_loops.proofs.Heights.{above-is}
+use Rattle.text.proofs.Prelude.{rules}
+use Rattle.bench_loops.specs.Timed.{above, summed, of_range}
+use Rattle.bench_loops.proofs.Heights.{above_is}
 use Rattle.bench_loops.proofs.of_pressure.Statement.{statement}
 use Rattle.bench_loops.proofs.of_pressure.Tie as tie
 
 high : (c : tie.After-above) →
     let h = c.before.before.before.range.given.0.0.height.0 in
     (c.above.result ≡ above h) × (c.above.result < 2 ^ 15)
-high c = above-is (search needs) c.above.ensures
+high c = above_is (search rules) c.above.ensures
 
 low : (c : tie.After-above2) →
     let l = c.before.before.before.before.before.range.given.0.1.0.height.0 in
     (c.above2.result ≡ above l) × (c.above2.result < 2 ^ 15)
-low c = above-is (search needs) c.above2.ensures
+low c = above_is (search rules) c.above2.ensures
 
-pub of-pressure-spec : {M : Type 1} → statement M
-unfolding ofRange summed
-of-pressure-spec =
+pub of_pressure_spec : {M : Type 1} → statement M
+unfolding of_range summed
+of_pressure_spec =
     tie.close
     (tie.spec
-    (search needs) (search needs) (search needs) (search needs) (search needs)
+    (search rules) (search rules) (search rules) (search rules) (search rules)
     (λ c. rw c.enum_told.given.1)
     (λ c.
     let at_high = c.before.before.before in

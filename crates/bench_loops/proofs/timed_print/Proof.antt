@@ -1,13 +1,13 @@
 use Rattle.text.specs.Prelude.{◌-◌, ◌≡◌, length}
-use Rattle.text.proofs.Prelude.{needs, refl, sym}
-use Rattle.walk.proofs.Turns.{Made, at-start, at-end, line, near}
-use Rattle.bench_loops.specs.Timed.{summed, printStep, printedOut}
+use Rattle.text.proofs.Prelude.{rules, refl, sym}
+use Rattle.walk.proofs.Turns.{Made, at_start, at_end, line, near}
+use Rattle.bench_loops.specs.Timed.{summed, print_step, printed_out}
 use Rattle.bench_loops.proofs.timed_print.Statement.{statement}
 use Rattle.bench_loops.proofs.timed_print.Tie as tie
 
 abbrev invariant-loop : tie.invariant-loop
 invariant-loop log buf₀ sum₀ at₀ buf sum at =
-    Made printStep (record { sum = 0; bytes = buf₀ }) log at (record { sum = sum; bytes = buf })
+    Made print_step (record { sum = 0; bytes = buf₀ }) log at (record { sum = sum; bytes = buf })
     × (length buf ≡ length buf₀)
 
 abbrev decreases-loop : tie.decreases-loop
@@ -19,7 +19,7 @@ loop-less c =
     near read.before.loop-test.true read.before.before.loop.invariant.0 read.read_at.ensures
 
 loop-again : tie.Need-loop-preserved invariant-loop decreases-loop
-unfolding printStep summed
+unfolding print_step summed
 loop-again c =
     let print = c.before.before.before in
     let view = print.before.before in
@@ -27,19 +27,19 @@ loop-again c =
     let p = rw view.view.ensures.bytes at print.print-line.ensures in (
       line read.before.loop-test.true read.before.before.loop.invariant.0 read.read_at.ensures
           (λ n h. rw (c.wrapping-add-u64.ensures, p.answer, p.left)),
-      search needs,
+      search rules,
     )
 
-pub timed-print-spec : {M : Type 1} → statement M
-unfolding printedOut
-timed-print-spec =
+pub timed_print_spec : {M : Type 1} → statement M
+unfolding printed_out
+timed_print_spec =
     tie.close
     (tie.spec
     invariant-loop
     decreases-loop
-    (λ c. (at-start, refl))
-    (search needs) (search needs) (search needs) (search needs)
+    (λ c. (at_start, refl))
+    (search rules) (search rules) (search rules) (search rules)
     loop-less
     loop-again
-    (search needs)
-    (λ c. sym (at-end c.loop-test.false c.before.loop.invariant.0)))
+    (search rules)
+    (λ c. sym (at_end c.loop-test.false c.before.loop.invariant.0)))

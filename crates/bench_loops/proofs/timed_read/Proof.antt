@@ -1,7 +1,7 @@
 use Rattle.text.specs.Prelude.{◌-◌, length}
-use Rattle.text.proofs.Prelude.{needs}
-use Rattle.walk.proofs.Turns.{Made, at-start, at-end, line, near}
-use Rattle.bench_loops.specs.Timed.{summed, read_step, readSum}
+use Rattle.text.proofs.Prelude.{rules}
+use Rattle.walk.proofs.Turns.{Made, at_start, at_end, line, near}
+use Rattle.bench_loops.specs.Timed.{summed, read_step, read_sum}
 use Rattle.bench_loops.proofs.timed_read.Statement.{statement}
 use Rattle.bench_loops.proofs.timed_read.Tie as tie
 
@@ -23,15 +23,15 @@ loop-again c =
     line read.before.loop-test.true read.before.before.loop.invariant read.read_at.ensures
     (λ n h. rw c.before.of-reading.ensures at c.wrapping-add-u64.ensures)
 
-pub timed-read-spec : {M : Type 1} → statement M
-unfolding readSum
-timed-read-spec =
+pub timed_read_spec : {M : Type 1} → statement M
+unfolding read_sum
+timed_read_spec =
     tie.close
     (tie.spec
     invariant-loop
     decreases-loop
-    (λ c. at-start)
-    (search needs) (search needs) (search needs)
+    (λ c. at_start)
+    (search rules) (search rules) (search rules)
     loop-less
     loop-again
-    (λ c. at-end c.loop-test.false c.before.loop.invariant))
+    (λ c. at_end c.loop-test.false c.before.loop.invariant))

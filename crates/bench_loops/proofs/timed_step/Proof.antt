@@ -1,27 +1,27 @@
 use Rattle.text.specs.Prelude.{◌-◌, length}
-use Rattle.text.proofs.Prelude.{needs, arith}
-use Rattle.log.specs.Fold.{fresh}
-use Rattle.log.proofs.Reached.{Reached, at-start, product}
+use Rattle.text.proofs.Prelude.{rules, arith}
+use Rattle.igc_log.specs.Fold.{fresh}
+use Rattle.igc_log.proofs.Reached.{Reached, at_start, product}
 use Rattle.cursor.specs.Cursor.{start}
 use Rattle.walk.specs.Walk as walk
 use Rattle.walk.specs.Readings.{reader}
-use Rattle.walk.proofs.Steps.{Roomy, roomy-fresh}
-use Rattle.bench_loops.specs.Timed.{summed, read_step, readSum}
-use Rattle.bench_loops.proofs.Walking.{carriedBy, not_done, step-read, step-turn, step-roomy}
-use Rattle.bench_loops.proofs.Walking.{step-less-left}
+use Rattle.walk.proofs.Steps.{Roomy, roomy_fresh}
+use Rattle.bench_loops.specs.Timed.{summed, read_step, read_sum}
+use Rattle.bench_loops.proofs.Walking.{carried_by, not_done, step_read, step_turn, step_roomy}
+use Rattle.bench_loops.proofs.Walking.{step_less_left}
 use Rattle.bench_loops.proofs.timed_step.Statement.{statement}
 use Rattle.bench_loops.proofs.timed_step.Tie as tie
 
 abbrev invariant-loop : tie.invariant-loop
 invariant-loop log walk₀ sum₀ walk sum =
-    Reached reader read_step (fresh reader 0) log walk.at.place (carriedBy walk sum) × Roomy log walk
+    Reached reader read_step (fresh reader 0) log walk.at.place (carried_by walk sum) × Roomy log walk
 
 abbrev decreases-loop : tie.decreases-loop
 decreases-loop log walk₀ sum₀ walk sum = length log - walk.at.place
 
 loop-holds : tie.Need-loop-init invariant-loop decreases-loop
 unfolding walk.fresh start
-loop-holds c = rw c.new.ensures (at-start, roomy-fresh _ (omega arith))
+loop-holds c = rw c.new.ensures (at_start, roomy_fresh _ (omega arith))
 
 never : tie.Need-returns invariant-loop decreases-loop
 never c =
@@ -35,7 +35,7 @@ loop-less c =
     let step = c.before.before.before.before.before.before in
     let test = step.before in
     let inv = test.before.before.loop.invariant in
-    step-less-left inv.1 test.if1.true inv.0 step.step.ensures
+    step_less_left inv.1 test.if1.true inv.0 step.step.ensures
 
 loop-again : tie.Need-loop-preserved invariant-loop decreases-loop
 unfolding read_step summed
@@ -47,24 +47,24 @@ loop-again c =
     let i = test.if1.true in
     let inv = test.before.before.loop.invariant in
     let e = step.step.ensures in
-    let read = step-read inv.1 i inv.0 e taken.taken.given.1 in (
-      step-turn inv.1 i inv.0 e
+    let read = step_read inv.1 i inv.0 e taken.taken.given.1 in (
+      step_turn inv.1 i inv.0 e
           (λ n h. rw (of.of-reading.ensures, read) at c.before.wrapping-add-u64.ensures),
-      step-roomy inv.1 i inv.0 e,
+      step_roomy inv.1 i inv.0 e,
     )
 
-pub timed-step-spec : {M : Type 1} → statement M
-unfolding readSum
-timed-step-spec =
+pub timed_step_spec : {M : Type 1} → statement M
+unfolding read_sum
+timed_step_spec =
     tie.close
     (tie.spec
     invariant-loop
     decreases-loop
-    (search needs)
+    (search rules)
     loop-holds
-    (search needs) (search needs)
+    (search rules) (search rules)
     never
-    (search needs) (search needs) (search needs)
+    (search rules) (search rules) (search rules)
     loop-less
     loop-again
     (λ c. product (omega arith) c.before.before.loop.invariant.0))

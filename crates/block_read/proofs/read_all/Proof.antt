@@ -1,14 +1,14 @@
-use Rattle.text.proofs.Prelude.{needs}
-use Rattle.text.specs.Spelt.{speltFrom, spelt}
+use Rattle.text.proofs.Prelude.{rules}
+use Rattle.text.specs.Spelt.{spelt_from, spelt}
 use Rattle.block_read.specs.Block.{read_all}
 use Rattle.block_read.proofs.Coming.{then, done}
 use Rattle.block_read.proofs.read_all.Statement.{statement}
 use Rattle.block_read.proofs.read_all.Tie as tie
 
 all : tie.Need-returns
-unfolding read_all spelt speltFrom
+unfolding read_all spelt spelt_from
 all c =
-    let times : tie.After-read-times = search needs in
+    let times : tie.After-read-times = search rules in
     let gps = times.before in
     let pressure = gps.before in
     let fixes = pressure.before in
@@ -23,10 +23,10 @@ all c =
     (then _ gps.read-span2.ensures
     (then _ times.read-times.ensures (done times.read-times.ensures.inside)))))))
 
-pub read-all-spec : {M : Type 1} → statement M
-read-all-spec =
+pub read_all_spec : {M : Type 1} → statement M
+read_all_spec =
     tie.close
     (tie.spec
-    (search needs) (search needs) (search needs) (search needs) (search needs) (search needs) (search needs)
-    (search needs) (search needs) (search needs)
+    (search rules) (search rules) (search rules) (search rules) (search rules) (search rules) (search rules)
+    (search rules) (search rules) (search rules)
     all)

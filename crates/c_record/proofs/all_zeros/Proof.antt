@@ -1,12 +1,12 @@
 use Rattle.text.specs.Prelude.{◌-◌, ◌≤◌, ◌≡◌, length, drop, ◌=?◌, zeros}
-use Rattle.text.proofs.Prelude.{needs, refl, yes=, no=}
-use Rattle.field.proofs.Every.{Every, every-fails, every-next, every-done}
+use Rattle.text.proofs.Prelude.{rules, refl, yes=, no=}
+use Rattle.field.proofs.Every.{Every, every_fails, every_next, every_done}
 use Rattle.c_record.proofs.all_zeros.Statement.{statement}
 use Rattle.c_record.proofs.all_zeros.Tie as tie
 
-every-zero : Every (λ b. b =? 48) zeros
+every_zero : Every (λ b. b =? 48) zeros
 unfolding zeros
-every-zero = record { all_nil = refl; all_cons = λ b s. refl }
+every_zero = record { all_nil = refl; all_cons = λ b s. refl }
 
 -- what is left, from here, is the whole
 abbrev invariant-loop : tie.invariant-loop
@@ -16,17 +16,17 @@ abbrev decreases-loop : tie.decreases-loop
 decreases-loop text i₀ i = length text - i
 
 returns : tie.Need-returns invariant-loop decreases-loop
-returns c = let l = c.before.before.before.loop in every-fails every-zero _ l.i (search needs) l.invariant.1
-    (no= (search needs))
+returns c = let l = c.before.before.before.loop in every_fails every_zero _ l.i (search rules) l.invariant.1
+    (no= (search rules))
 
 loop-again : tie.Need-loop-preserved invariant-loop decreases-loop
 loop-again c = let l = c.before.before.before.loop in
-    (search needs, every-next every-zero _ l.i (search needs) l.invariant.1 (yes= (search needs)))
+    (search rules, every_next every_zero _ l.i (search rules) l.invariant.1 (yes= (search rules)))
 
 ends : tie.Need-returns-2 invariant-loop decreases-loop
-ends c = every-done every-zero _ c.before.loop.i (search needs) c.before.loop.invariant.1
+ends c = every_done every_zero _ c.before.loop.i (search rules) c.before.loop.invariant.1
 
-pub all-zeros-spec : {M : Type 1} → statement M
-all-zeros-spec =
-    tie.close (tie.spec invariant-loop decreases-loop (search needs) (search needs) returns (search needs) (search needs) loop-again
+pub all_zeros_spec : {M : Type 1} → statement M
+all_zeros_spec =
+    tie.close (tie.spec invariant-loop decreases-loop (search rules) (search rules) returns (search rules) (search rules) loop-again
     ends)

@@ -1,13 +1,13 @@
-use Rattle.text.proofs.Prelude.{needs}
-use Rattle.c_record.specs.CRecord.{flightBook}
+use Rattle.text.proofs.Prelude.{rules}
+use Rattle.c_record.specs.CRecord.{flight_book}
 use Rattle.c_record.proofs.flight_by_the_book.Statement.{statement}
 use Rattle.c_record.proofs.flight_by_the_book.Tie as tie
 
-pub flight-by-the-book-spec : {M : Type 1} → statement M
-unfolding flightBook
-flight-by-the-book-spec =
+pub flight_by_the_book_spec : {M : Type 1} → statement M
+unfolding flight_book
+flight_by_the_book_spec =
     tie.close
     (tie.spec
-    (search needs) (search needs) (search needs)
+    (search rules) (search rules) (search rules)
     (λ c. rw c.enum_told.given.1)
     (λ c. rw c.before.before.flight.given.1 c.by-the-book.ensures))

@@ -1,5 +1,5 @@
 use Rattle.text.specs.Prelude.{ℕ, pick, ◌=?◌, ◌∨?◌}
-use Rattle.text.proofs.Prelude.{needs, refl, first, second, yes=, no=}
+use Rattle.text.proofs.Prelude.{rules, refl, first, second, yes=, no=}
 use lib.ListN.{get_or-eq_default}
 use Rattle.c_record.specs.CRecord.{turns}
 use Rattle.c_record.proofs.is_turnpoint.Statement.{statement}
@@ -14,7 +14,7 @@ south : tie.Need-returns-3
 unfolding turns ◌∨?◌ ◌=?◌
 south c = second _ (no= {b = 78} c.before.if2.false) refl
 
-pub is-turnpoint-spec : {M : Type 1} → statement M
+pub is_turnpoint_spec : {M : Type 1} → statement M
 unfolding turns ◌∨?◌
-is-turnpoint-spec =
-    tie.close (tie.spec none (search needs) (λ c. first _ (yes= (search needs)) refl) (search needs) south)
+is_turnpoint_spec =
+    tie.close (tie.spec none (search rules) (λ c. first _ (yes= (search rules)) refl) (search rules) south)

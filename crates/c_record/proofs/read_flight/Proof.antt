@@ -1,25 +1,25 @@
-use Rattle.text.specs.Prelude.{ℕ, ◌≡◌, false, List, now, zeros}
-use Rattle.text.proofs.Prelude.{needs, refl, sym, ◌∙◌, came, on, off, first, second}
-use Rattle.date.specs.Date.{dateRes}
-use Rattle.c_record.specs.CRecord.{readFlight}
+use Rattle.text.specs.Prelude.{ℕ, ◌≡◌, false, List, zeros}
+use Rattle.text.proofs.Prelude.{rules, refl, sym, ◌∙◌, came, on, off, first, second}
+use Rattle.date.specs.Date.{date_res}
+use Rattle.c_record.specs.CRecord.{read_flight_of}
 use Rattle.c_record.proofs.read_flight.Statement.{statement}
 use Rattle.c_record.proofs.read_flight.Tie as tie
 
 abbrev text : tie.Start → List ℕ
-text b = now b.args.text
+text b = b.args.text.now
 
-some : (c : tie.Else1) → zeros (text (search needs)) ≡ false
+some : (c : tie.Else1) → zeros (text (search rules)) ≡ false
 some c = sym c.before.all-zeros.ensures ∙ c.if1.false
 
-pub read-flight-spec : {M : Type 1} → statement M
-unfolding readFlight
-read-flight-spec =
+pub read_flight_spec : {M : Type 1} → statement M
+unfolding read_flight_of
+read_flight_spec =
     tie.close
     (tie.spec
-    (search needs)
+    (search rules)
     (λ c. first _ (sym c.before.all-zeros.ensures ∙ c.if1.true) refl)
-    (search needs) (search needs) (search needs)
-    (λ c. second _ (some (search needs))
-    (on _ (came dateRes c.before.date.given.1 c.before.before.before.parse.ensures) refl))
-    (λ c. second _ (some (search needs))
-    (off _ (came dateRes c.before.no-date.given.1 c.before.before.before.parse.ensures))))
+    (search rules) (search rules) (search rules)
+    (λ c. second _ (some (search rules))
+    (on _ (came date_res c.before.date.given.1 c.before.before.before.parse.ensures) refl))
+    (λ c. second _ (some (search rules))
+    (off _ (came date_res c.before.no-date.given.1 c.before.before.before.parse.ensures))))

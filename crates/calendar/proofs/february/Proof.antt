@@ -1,8 +1,8 @@
-use Rattle.text.proofs.Prelude.{needs, refl, first, second, yes=, no=}
+use Rattle.text.proofs.Prelude.{rules, refl, first, second, yes=, no=}
 use Rattle.calendar.specs.Days.{february}
 use Rattle.calendar.proofs.february.Statement.{statement}
 use Rattle.calendar.proofs.february.Tie as tie
 
-pub february-spec : {M : Type 1} → statement M
+pub february_spec : {M : Type 1} → statement M
 unfolding february
-february-spec = tie.close (tie.spec (λ c. first _ (yes= (search needs)) refl) (λ c. second _ (no= (search needs)) refl))
+february_spec = tie.close (tie.spec (λ c. first _ (yes= (search rules)) refl) (λ c. second _ (no= (search rules)) refl))

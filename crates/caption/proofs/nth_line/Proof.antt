@@ -2,9 +2,9 @@ use Rattle.text.specs.Prelude.{◌-◌, ◌<◌, ◌≡◌, length, drop}
 use borrow.Author.Rules.{rules}
 use native.Mathlib.Omega.{arith}
 use mathlib.Core.Path.{refl, sym, ◌∙◌}
-use Rattle.log.specs.Log.{chunks}
+use Rattle.igc_log.specs.Log.{chunks}
 use Rattle.caption.specs.Caption.{nowhere, nth}
-use Rattle.caption.proofs.Lines.{nth_past, nth_here, nth-next, here-inside}
+use Rattle.caption.proofs.Lines.{nth_past, nth_here, nth_next, here_inside}
 use Rattle.caption.proofs.nth_line.Statement.{statement}
 use Rattle.caption.proofs.nth_line.Tie as tie
 
@@ -24,7 +24,7 @@ here c =
     let l = c.before.before.before.before.loop in
     let ahead = c.before.before.cut-ahead.ensures in (
       nth_here ahead (search rules) ∙ (rw c.before.if2.true at l.invariant.1),
-      here-inside ahead (search rules),
+      here_inside ahead (search rules),
     )
 
 less : tie.Need-loop-smaller invariant-loop decreases-loop
@@ -34,14 +34,14 @@ again : tie.Need-loop-preserved invariant-loop decreases-loop
 again c =
     let l = c.before.before.before.loop in (
       search rules,
-      sym (nth-next c.before.cut-ahead.ensures (search rules) l.left (search rules)) ∙ l.invariant.1,
+      sym (nth_next c.before.cut-ahead.ensures (search rules) l.left (search rules)) ∙ l.invariant.1,
     )
 
 past : tie.Need-returns-3 invariant-loop decreases-loop
 unfolding nowhere
 past c = let l = c.before.loop in (sym (nth_past _ l.at l.left (search rules)) ∙ l.invariant.1, omega arith)
 
-pub nth-line-spec : {M : Type 1} → statement M
-nth-line-spec =
+pub nth_line_spec : {M : Type 1} → statement M
+nth_line_spec =
     tie.close
     (tie.spec invariant-loop decreases-loop none (λ c. (search rules, refl)) (search rules) here (search rules) less again past)

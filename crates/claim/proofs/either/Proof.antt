@@ -2,6 +2,6 @@ use Rattle.text.specs.Prelude.{◌∨?◌, pick}
 use Rattle.claim.proofs.either.Statement.{statement}
 use Rattle.claim.proofs.either.Tie as tie
 
-pub either-spec : {M : Type 1} → statement M
+pub either_spec : {M : Type 1} → statement M
 unfolding ◌∨?◌ pick
-either-spec = tie.close (tie.spec (λ c. rw c.if1.true) (λ c. rw c.if1.false))
+either_spec = tie.close (tie.spec (λ c. rw c.if1.true) (λ c. rw c.if1.false))

@@ -1,13 +1,13 @@
-use Rattle.text.proofs.Prelude.{needs}
-use Rattle.claim.specs.Step.{lastWith}
+use Rattle.text.proofs.Prelude.{rules}
+use Rattle.claim.specs.Step.{last_with_of}
 use Rattle.claim.proofs.last_with.Statement.{statement}
 use Rattle.claim.proofs.last_with.Tie as tie
 
-pub last-with-spec : {M : Type 1} → statement M
-unfolding lastWith
-last-with-spec =
+pub last_with_spec : {M : Type 1} → statement M
+unfolding last_with_of
+last_with_spec =
     tie.close
     (tie.spec
-    (search needs) (search needs)
+    (search rules) (search rules)
     (λ c. rw c.before.second.given.1)
     (λ c. rw c.enum_told.given.1))

@@ -1,4 +1,4 @@
-use Rattle.text.proofs.Prelude.{needs, tested}
+use Rattle.text.proofs.Prelude.{rules, tested}
 use Rattle.claim_line.specs.Asked.{asked_of}
 use Rattle.claim_line.proofs.ask.Statement.{statement}
 use Rattle.claim_line.proofs.ask.Tie as tie
@@ -22,9 +22,9 @@ returns c =
       tested _ 76,
     )
 
-pub ask-spec : {M : Type 1} → statement M
-ask-spec =
+pub ask_spec : {M : Type 1} → statement M
+ask_spec =
     tie.close
     (tie.spec
-    (search needs) (search needs) (search needs) (search needs) (search needs) (search needs) (search needs)
+    (search rules) (search rules) (search rules) (search rules) (search rules) (search rules) (search rules)
     returns)

@@ -1,4 +1,4 @@
-use Rattle.text.proofs.Prelude.{needs}
+use Rattle.text.proofs.Prelude.{rules}
 use Rattle.claim_line.proofs.Asking.{asks}
 use Rattle.claim_line.proofs.ask_at.Statement.{statement}
 use Rattle.claim_line.proofs.ask_at.Tie as tie
@@ -8,5 +8,5 @@ returns c =
     let view = c.before in
     asks _ _ view.before.before.read_at.ensures view.view.ensures.bytes c.ask.ensures
 
-pub ask-at-spec : {M : Type 1} → statement M
-ask-at-spec = tie.close (tie.spec (search needs) (search needs) (search needs) returns)
+pub ask_at_spec : {M : Type 1} → statement M
+ask_at_spec = tie.close (tie.spec (search rules) (search rules) (search rules) returns)

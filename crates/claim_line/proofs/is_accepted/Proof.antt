@@ -1,8 +1,8 @@
 use Rattle.text.specs.Prelude.{◌≡◌, false, number_of, ◌=?◌}
-use Rattle.text.proofs.Prelude.{needs, refl}
+use Rattle.text.proofs.Prelude.{rules, refl}
 use Rattle.text.specs.declared.refusal.Refusal.{Refusal}
 use Rattle.records.specs.Record.{answered}
-use Rattle.claim_line.specs.Asked.{isAccepted}
+use Rattle.claim_line.specs.Asked.{is_accepted_of}
 use Rattle.claim_line.proofs.is_accepted.Statement.{statement}
 use Rattle.claim_line.proofs.is_accepted.Tie as tie
 
@@ -23,12 +23,12 @@ numbered Refusal.SpoiledTable = refl
 numbered Refusal.NotDefined = refl
 
 accepted : tie.Need-returns
-unfolding isAccepted answered ◌=?◌
+unfolding is_accepted_of answered ◌=?◌
 accepted c = rw (c.before.before.reading.given.1, c.number.ensures)
 
 refused : tie.Need-returns-2
-unfolding isAccepted answered
+unfolding is_accepted_of answered
 refused c = rw c.enum_told.given.1 (numbered c.enum_told.given.0.0)
 
-pub is-accepted-spec : {M : Type 1} → statement M
-is-accepted-spec = tie.close (tie.spec (search needs) (search needs) (search needs) accepted refused)
+pub is_accepted_spec : {M : Type 1} → statement M
+is_accepted_spec = tie.close (tie.spec (search rules) (search rules) (search rules) accepted refused)

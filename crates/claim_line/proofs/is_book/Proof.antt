@@ -1,13 +1,13 @@
-use Rattle.text.proofs.Prelude.{needs}
-use Rattle.claim_line.specs.Asked.{isBook}
+use Rattle.text.proofs.Prelude.{rules}
+use Rattle.claim_line.specs.Asked.{is_book_of}
 use Rattle.claim_line.proofs.is_book.Statement.{statement}
 use Rattle.claim_line.proofs.is_book.Tie as tie
 
-pub is-book-spec : {M : Type 1} → statement M
-unfolding isBook
-is-book-spec =
+pub is_book_spec : {M : Type 1} → statement M
+unfolding is_book_of
+is_book_spec =
     tie.close
     (tie.spec
-    (search needs) (search needs) (search needs)
+    (search rules) (search rules) (search rules)
     (λ c. rw c.before.before.reading.given.1 c.by-the-book.ensures)
     (λ c. rw c.enum_told.given.1))

@@ -1,23 +1,23 @@
-use Rattle.text.proofs.Prelude.{needs}
-use Rattle.text.specs.Spelt.{speltFrom, spelt}
+use Rattle.text.proofs.Prelude.{rules}
+use Rattle.text.specs.Spelt.{spelt_from, spelt}
 use Rattle.put.proofs.Writing.{then}
-use Rattle.claim_text.specs.Text.{verdictText}
+use Rattle.claim_text.specs.Text.{verdict_text}
 use Rattle.claim_text.proofs.put_verdict.Statement.{statement}
 use Rattle.claim_text.proofs.put_verdict.Tie as tie
 
 yes : tie.Need-returns
-unfolding verdictText spelt speltFrom
+unfolding verdict_text spelt spelt_from
 yes c = let put = c.before.before in rw put.before.before.before.enum_told.given.1 put.put-bytes.ensures
 
 no : tie.Need-returns-2
-unfolding verdictText
-no c = let e : tie.After-verdict = search needs in rw e.verdict.given.1 (search (then))
+unfolding verdict_text
+no c = let e : tie.After-verdict = search rules in rw e.verdict.given.1 (search (then))
 
-pub put-verdict-spec : {M : Type 1} → statement M
-put-verdict-spec =
+pub put_verdict_spec : {M : Type 1} → statement M
+put_verdict_spec =
     tie.close
     (tie.spec
-    (search needs) (search needs) (search needs) (search needs) (search needs) (search needs) (search needs)
+    (search rules) (search rules) (search rules) (search rules) (search rules) (search rules) (search rules)
     yes
-    (search needs)
+    (search rules)
     no)

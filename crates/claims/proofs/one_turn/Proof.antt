@@ -1,8 +1,8 @@
-use Rattle.text.proofs.Prelude.{needs, ap, ◌∙◌}
+use Rattle.text.proofs.Prelude.{rules, ap, ◌∙◌}
 use native.Mathlib.Nat.{sub-zero}
 use Rattle.claims.specs.Claims.{stopped, turned}
 use Rattle.claims.specs.declared.Turn.{Turn}
-use Rattle.claims.proofs.Going.{unmoved, last-is-last}
+use Rattle.claims.proofs.Going.{unmoved, last_is_last}
 use Rattle.claims.proofs.one_turn.Statement.{statement}
 use Rattle.claims.proofs.one_turn.Tie as tie
 
@@ -11,7 +11,7 @@ inside : tie.Need-slice-bounds-finish-end
 inside c =
     let told = c.before.before in
     let h = rw told.filled.given.1 at told.before.before.before.requires in
-    search needs
+    search rules
 
 ended : tie.Need-returns
 unfolding turned
@@ -19,7 +19,7 @@ ended c =
     let told = c.before.before.before.before in
     let e = rw sub-zero at c.finish.ensures in (
       rw told.filled.given.1 e,
-      unmoved _ (ap (λ (t : Turn). t.more) e ∙ last-is-last _ _),
+      unmoved _ (ap (λ (t : Turn). t.more) e ∙ last_is_last _ _),
     )
 
 full : tie.Need-returns-2
@@ -36,14 +36,14 @@ failed c = (
   unmoved _ (ap (λ (t : Turn). t.more) c.stop.ensures),
 )
 
-pub one-turn-spec : {M : Type 1} → statement M
-one-turn-spec =
+pub one_turn_spec : {M : Type 1} → statement M
+one_turn_spec =
     tie.close
     (tie.spec
-    (search needs) (search needs) (search needs)
+    (search rules) (search rules) (search rules)
     inside
-    (search needs) (search needs) (search needs) (search needs) (search needs) (search needs)
+    (search rules) (search rules) (search rules) (search rules) (search rules) (search rules)
     ended
-    (search needs)
+    (search rules)
     full
     failed)

@@ -1,17 +1,17 @@
-use Rattle.text.specs.Prelude.{◌-◌, ◌≡◌, length, drop, ◌∧?◌, isDigit, allDigits}
-use Rattle.text.proofs.Prelude.{needs, refl, sym, ◌∙◌, holds, fails, so-true, so_false}
+use Rattle.text.specs.Prelude.{◌-◌, ◌≡◌, length, drop, ◌∧?◌, is_digit_of, all_digits_of}
+use Rattle.text.proofs.Prelude.{rules, refl, sym, ◌∙◌, holds, fails, so_true, so_false}
 use mathlib.Core.Logic.{⊎_elim}
-use Rattle.field.proofs.Every.{Every, next-seen, all_seen}
+use Rattle.field.proofs.Every.{Every, next_seen, all_seen}
 use Rattle.field.proofs.all_digits.Statement.{statement}
 use Rattle.field.proofs.all_digits.Tie as tie
 
-every-digit : Every isDigit allDigits
-unfolding allDigits
-every-digit = record { all_nil = refl; all_cons = λ b s. refl }
+every_digit : Every is_digit_of all_digits_of
+unfolding all_digits_of
+every_digit = record { all_nil = refl; all_cons = λ b s. refl }
 
 -- what is seen and what is left, from here, are the whole
 abbrev invariant-loop : tie.invariant-loop
-invariant-loop text all₀ i₀ all i = (all ∧? allDigits (drop i text)) ≡ allDigits text
+invariant-loop text all₀ i₀ all i = (all ∧? all_digits_of (drop i text)) ≡ all_digits_of text
 
 abbrev decreases-loop : tie.decreases-loop
 decreases-loop text all₀ i₀ all i = length text - i
@@ -20,14 +20,14 @@ loop-again : tie.Need-loop-preserved invariant-loop decreases-loop
 loop-again c =
     let l = c.before.before.before.before.loop in
     let digit = c.before.is_digit.ensures in
-    next-seen every-digit _ l.i l.all (search needs) l.invariant
+    next_seen every_digit _ l.i l.all (search rules) l.invariant
     (⊎_elim (λ w. w.1 ∙ sym (fails _ (so_false digit w.0.taken)))
-    (λ w. w.1 ∙ sym (holds (so-true digit w.0.left) refl)) c.if1.branch)
+    (λ w. w.1 ∙ sym (holds (so_true digit w.0.left) refl)) c.if1.branch)
 
 ends : tie.Need-returns invariant-loop decreases-loop
-ends c = all_seen every-digit _ c.before.loop.i (search needs) c.before.loop.invariant
+ends c = all_seen every_digit _ c.before.loop.i (search rules) c.before.loop.invariant
 
-pub all-digits-spec : {M : Type 1} → statement M
-all-digits-spec =
-    tie.close (tie.spec invariant-loop decreases-loop (λ c. holds refl refl) (search needs) (search needs) (search needs)
-    (search needs) loop-again ends)
+pub all_digits_spec : {M : Type 1} → statement M
+all_digits_spec =
+    tie.close (tie.spec invariant-loop decreases-loop (λ c. holds refl refl) (search rules) (search rules) (search rules)
+    (search rules) loop-again ends)

@@ -1,30 +1,30 @@
 use Rattle.text.specs.Prelude.{◌-◌, ◌≡◌, length, drop}
-use Rattle.text.proofs.Prelude.{needs, refl, yes≤, no≤}
-use Rattle.field.specs.Field.{isAscii}
-use Rattle.field.proofs.Every.{every-fails, every-next, every-done}
-use Rattle.field.proofs.Ascii.{every-ascii}
+use Rattle.text.proofs.Prelude.{rules, refl, yes≤, no≤}
+use Rattle.field.specs.Field.{is_ascii_of}
+use Rattle.field.proofs.Every.{every_fails, every_next, every_done}
+use Rattle.field.proofs.Ascii.{every_ascii}
 use Rattle.field.proofs.ascii_tail.Statement.{statement}
 use Rattle.field.proofs.ascii_tail.Tie as tie
 
 -- what is left, from here, is the whole
 abbrev invariant-loop : tie.invariant-loop
-invariant-loop text at i₀ i = isAscii (drop i text) ≡ isAscii (drop at text)
+invariant-loop text at i₀ i = is_ascii_of (drop i text) ≡ is_ascii_of (drop at text)
 
 abbrev decreases-loop : tie.decreases-loop
 decreases-loop text at i₀ i = length text - i
 
 returns : tie.Need-returns invariant-loop decreases-loop
-returns c = let l = c.before.before.before.loop in every-fails every-ascii _ l.i (search needs) l.invariant
-    (no≤ (search needs))
+returns c = let l = c.before.before.before.loop in every_fails every_ascii _ l.i (search rules) l.invariant
+    (no≤ (search rules))
 
 loop-again : tie.Need-loop-preserved invariant-loop decreases-loop
-loop-again c = let l = c.before.before.before.loop in every-next every-ascii _ l.i (search needs) l.invariant
-    (yes≤ (search needs))
+loop-again c = let l = c.before.before.before.loop in every_next every_ascii _ l.i (search rules) l.invariant
+    (yes≤ (search rules))
 
 ends : tie.Need-returns-2 invariant-loop decreases-loop
-ends c = every-done every-ascii _ c.before.loop.i (search needs) c.before.loop.invariant
+ends c = every_done every_ascii _ c.before.loop.i (search rules) c.before.loop.invariant
 
-pub ascii-tail-spec : {M : Type 1} → statement M
-ascii-tail-spec =
-    tie.close (tie.spec invariant-loop decreases-loop (λ c. refl) (search needs) returns (search needs) (search needs) loop-again
+pub ascii_tail_spec : {M : Type 1} → statement M
+ascii_tail_spec =
+    tie.close (tie.spec invariant-loop decreases-loop (λ c. refl) (search rules) returns (search rules) (search rules) loop-again
     ends)

@@ -1,5 +1,5 @@
 use Rattle.text.specs.Prelude.{◌≡◌}
-use Rattle.text.proofs.Prelude.{needs}
+use Rattle.text.proofs.Prelude.{rules}
 use Rattle.finer.specs.Finer.{both}
 use Rattle.finer.specs.declared.{FinerCoord.FinerCoord, FinerRead.FinerRead, FinerRefusal.FinerRefusal}
 use Rattle.finer.specs.declared.FinerPositionRead.{FinerPositionRead}
@@ -8,15 +8,15 @@ use Rattle.finer.proofs.both.Tie as tie
 
 module _ (lat lon : FinerRead) where
   -- the latitude is refused, whatever the longitude
-  no-lat : {n : FinerRefusal} → lat ≡ FinerRead.Refused n → FinerPositionRead.Refused n ≡ both lat lon
+  no_lat : {n : FinerRefusal} → lat ≡ FinerRead.Refused n → FinerPositionRead.Refused n ≡ both lat lon
   unfolding both
-  no-lat e = rw e
+  no_lat e = rw e
 
   -- the longitude is refused, and the latitude is not
-  no-lon : {a : FinerCoord} {n : FinerRefusal} → lat ≡ FinerRead.Ok a → lon ≡ FinerRead.Refused n →
+  no_lon : {a : FinerCoord} {n : FinerRefusal} → lat ≡ FinerRead.Ok a → lon ≡ FinerRead.Refused n →
       FinerPositionRead.Refused n ≡ both lat lon
   unfolding both
-  no-lon e k = rw (e, k)
+  no_lon e k = rw (e, k)
 
   -- both are given
   given : {a b : FinerCoord} → lat ≡ FinerRead.Ok a → lon ≡ FinerRead.Ok b →
@@ -24,11 +24,11 @@ module _ (lat lon : FinerRead) where
   unfolding both
   given e k = rw (e, k)
 
-pub both-spec : {M : Type 1} → statement M
-both-spec =
+pub both_spec : {M : Type 1} → statement M
+both_spec =
     tie.close
     (tie.spec
-    (search needs) (search needs) (search needs) (search needs)
-    (λ c. no-lat _ _ (search needs))
-    (λ c. no-lon _ _ c.before.before.before.before.lat2.given.1 (search needs))
-    (λ c. given _ _ (search needs) (search needs)))
+    (search rules) (search rules) (search rules) (search rules)
+    (λ c. no_lat _ _ (search rules))
+    (λ c. no_lon _ _ c.before.before.before.before.lat2.given.1 (search rules))
+    (λ c. given _ _ (search rules) (search rules)))

@@ -1,8 +1,8 @@
 use Rattle.text.specs.Prelude.{◌+◌, ◌*◌, ◌^◌, ◌<◌}
-use Rattle.text.proofs.Prelude.{needs, arith}
+use Rattle.text.proofs.Prelude.{rules, arith}
 use mir.Facts.{to_z-of_z}
 use Rattle.finer.specs.Finer.{toward, finely}
-use Rattle.finer.proofs.Small.{fits, toward-fits}
+use Rattle.finer.proofs.Small.{fits, toward_fits}
 use Rattle.finer.proofs.finely.Statement.{statement}
 use Rattle.finer.proofs.finely.Tie as tie
 
@@ -23,18 +23,18 @@ returns c =
     let n = thousandths.before.args.n in
     rw (
       c.toward.ensures,
-      to_z-of_z (toward-fits thousandths.before.args.c.sign (small power)),
+      to_z-of_z (toward_fits thousandths.before.args.c.sign (small power)),
       thousandths.thousandths.ensures,
       power.power.ensures,
     )
 
-pub finely-spec : {M : Type 1} → statement M
-finely-spec =
+pub finely_spec : {M : Type 1} → statement M
+finely_spec =
     tie.close
     (tie.spec
-    (search needs) (search needs)
+    (search rules) (search rules)
     (λ c. omega (arith, small c))
     (λ c. omega (arith, small c))
     (λ c κs. small c)
-    (search needs)
+    (search rules)
     returns)

@@ -1,15 +1,15 @@
-use Rattle.text.specs.Prelude.{ℕ, List, now}
-use Rattle.text.proofs.Prelude.{needs, sym, ◌∙◌, first, second}
-use Rattle.finer.specs.Finer.{both, positionBy}
-use Rattle.finer.proofs.Plain.{none-lies, none_read}
+use Rattle.text.specs.Prelude.{ℕ, List}
+use Rattle.text.proofs.Prelude.{rules, sym, ◌∙◌, first, second}
+use Rattle.finer.specs.Finer.{both, position_by_of}
+use Rattle.finer.proofs.Plain.{none_lies, none_read}
 use Rattle.finer.proofs.position_by.Statement.{statement}
 use Rattle.finer.proofs.position_by.Tie as tie
 
 abbrev line : tie.Start → List ℕ
-line b = now b.args.line
+line b = b.args.line.now
 
 plain : tie.Need-returns
-unfolding positionBy
+unfolding position_by_of
 plain c =
     let lon = c.before in
     let lat = lon.before in
@@ -18,7 +18,7 @@ plain c =
     (rw (c.both.ensures, lat.finer.ensures, lon.finer2.ensures, none_read, none_read))
 
 fine : tie.Need-returns-2
-unfolding positionBy
+unfolding position_by_of
 fine c =
     let lon = c.before in
     let lat = lon.before in
@@ -26,16 +26,16 @@ fine c =
     second _ (sym test.is_plain.ensures ∙ lat.before.if1.false)
     (rw (c.both2.ensures, lat.finer3.ensures, lon.finer4.ensures))
 
-pub position-by-spec : {M : Type 1} → statement M
-position-by-spec =
+pub position_by_spec : {M : Type 1} → statement M
+position_by_spec =
     tie.close
     (tie.spec
-    (search needs)
-    (λ c κs. none-lies (line c.before.before.before.before.before))
-    (λ c κs. none-lies (line c.before.before.before.before.before.before))
-    (search needs)
+    (search rules)
+    (λ c κs. none_lies (line c.before.before.before.before.before))
+    (λ c κs. none_lies (line c.before.before.before.before.before.before))
+    (search rules)
     plain
     (λ c κs. c.before.before.before.before.before.requires.0)
     (λ c κs. c.before.before.before.before.before.before.requires.1)
-    (search needs)
+    (search rules)
     fine)

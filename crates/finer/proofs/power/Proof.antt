@@ -1,5 +1,5 @@
 use Rattle.text.specs.Prelude.{◌-◌, ◌^◌, ◌≤◌, ◌≡◌}
-use Rattle.text.proofs.Prelude.{needs, arith, ap, ◌∙◌}
+use Rattle.text.proofs.Prelude.{rules, arith, ap, ◌∙◌}
 use native.Mathlib.Nat.{pow-suc}
 use native.Mathlib.Numerals.{add-one}
 use Rattle.finer.proofs.Small.{power_le}
@@ -12,18 +12,18 @@ invariant-loop n parts₀ i₀ parts i = (i ≤ n) × (parts ≡ 10 ^ i)
 abbrev decreases-loop : tie.decreases-loop
 decreases-loop n parts₀ i₀ parts i = n - i
 
-mul-parts : tie.Need-overflow-mul-parts invariant-loop decreases-loop
-mul-parts c = omega (arith, power_le c.before.loop.i (omega arith))
+mul_parts : tie.Need-overflow-mul-parts invariant-loop decreases-loop
+mul_parts c = omega (arith, power_le c.before.loop.i (omega arith))
 
 loop-again : tie.Need-loop-preserved invariant-loop decreases-loop
-loop-again c = (search needs, rw (add-one, pow-suc) (omega arith))
+loop-again c = (search rules, rw (add-one, pow-suc) (omega arith))
 
 returns : tie.Need-returns invariant-loop decreases-loop
 returns c =
     let e : c.before.loop.i ≡ c.before.before.args.n = omega arith in
     c.before.loop.invariant.1 ∙ ap (λ k. 10 ^ k) e
 
-pub power-spec : {M : Type 1} → statement M
-power-spec =
+pub power_spec : {M : Type 1} → statement M
+power_spec =
     tie.close
-    (tie.spec invariant-loop decreases-loop (search needs) mul-parts (search needs) (search needs) loop-again returns)
+    (tie.spec invariant-loop decreases-loop (search rules) mul_parts (search rules) (search rules) loop-again returns)

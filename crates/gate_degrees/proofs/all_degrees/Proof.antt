@@ -8,7 +8,7 @@ invariant-loop row sign sums₀ degrees₀ sums degrees = Unit
 abbrev decreases-loop : tie.decreases-loop
 decreases-loop row sign sums₀ degrees₀ sums degrees = 181 - degrees
 
-pub all-degrees-spec : {M : Type 1} → statement M
-all-degrees-spec =
+pub all_degrees_spec : {M : Type 1} → statement M
+all_degrees_spec =
     tie.close (tie.spec invariant-loop decreases-loop (λ c. tt) (search rules) (λ c. omega arith) (λ c. omega arith) (λ c. tt)
     (search rules))

@@ -3,5 +3,5 @@ use Rattle.gate_degrees.proofs.Nans.{no_nan}
 use Rattle.gate_degrees.proofs.bits32.Statement.{statement}
 use Rattle.gate_degrees.proofs.bits32.Tie as tie
 
-pub bits32-spec : {M : Type 1} → statement M
-bits32-spec = tie.close (tie.spec (λ c. no_nan _ c.if1.false) (search rules) (search rules))
+pub bits32_spec : {M : Type 1} → statement M
+bits32_spec = tie.close (tie.spec (λ c. no_nan _ c.if1.false) (search rules) (search rules))

@@ -3,5 +3,5 @@ use Rattle.gate_degrees.proofs.Nans.{no_nan}
 use Rattle.gate_degrees.proofs.bits64.Statement.{statement}
 use Rattle.gate_degrees.proofs.bits64.Tie as tie
 
-pub bits64-spec : {M : Type 1} → statement M
-bits64-spec = tie.close (tie.spec (λ c. no_nan _ c.if1.false) (search rules) (search rules))
+pub bits64_spec : {M : Type 1} → statement M
+bits64_spec = tie.close (tie.spec (λ c. no_nan _ c.if1.false) (search rules) (search rules))

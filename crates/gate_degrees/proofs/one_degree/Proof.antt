@@ -8,7 +8,7 @@ invariant-loop row degrees sign a₀ b₀ t₀ a b t = Unit
 abbrev decreases-loop : tie.decreases-loop
 decreases-loop row degrees sign a₀ b₀ t₀ a b t = 60001 - t
 
-pub one-degree-spec : {M : Type 1} → statement M
-one-degree-spec =
+pub one_degree_spec : {M : Type 1} → statement M
+one_degree_spec =
     tie.close (tie.spec invariant-loop decreases-loop (λ c. tt) (search rules) (search rules) (search rules) (λ c. omega arith)
     (λ c. omega arith) (λ c. tt) (search rules))

@@ -1,5 +1,5 @@
 use Rattle.text.specs.Prelude.{◌-◌}
-use Rattle.text.proofs.Prelude.{needs, arith}
+use Rattle.text.proofs.Prelude.{rules, arith}
 use Rattle.gate_numbers.proofs.all.Statement.{statement}
 use Rattle.gate_numbers.proofs.all.Tie as tie
 
@@ -9,7 +9,7 @@ invariant-loop row width end a₀ b₀ n₀ a b n = Unit
 abbrev decreases-loop : tie.decreases-loop
 decreases-loop row width end a₀ b₀ n₀ a b n = end - n
 
-pub all-spec : {M : Type 1} → statement M
-all-spec =
-    tie.close (tie.spec invariant-loop decreases-loop (λ c. tt) (search needs) (search needs) (search needs) (λ c. omega arith)
-    (λ c. omega arith) (λ c. tt) (search needs))
+pub all_spec : {M : Type 1} → statement M
+all_spec =
+    tie.close (tie.spec invariant-loop decreases-loop (λ c. tt) (search rules) (search rules) (search rules) (λ c. omega arith)
+    (λ c. omega arith) (λ c. tt) (search rules))

@@ -1,26 +1,26 @@
 use Rattle.text.specs.Prelude.{◌+◌, ◌-◌, ◌≤◌, ◌≡◌, length, drop}
-use Rattle.text.proofs.Prelude.{needs, refl}
-use Rattle.h_record.specs.HRecord.{colonIn}
-use Rattle.h_record.proofs.Colons.{here, colon-next, colon-nowhere}
+use Rattle.text.proofs.Prelude.{rules, refl}
+use Rattle.h_record.specs.HRecord.{colon_in}
+use Rattle.h_record.proofs.Colons.{here, colon_next, colon_nowhere}
 use Rattle.h_record.proofs.colon.Statement.{statement}
 use Rattle.h_record.proofs.colon.Tie as tie
 
 -- what is left, from here, is the whole
 abbrev invariant-loop : tie.invariant-loop
-invariant-loop line i₀ i = (i ≤ length line) × (i + colonIn (drop i line) ≡ 5 + colonIn (drop 5 line))
+invariant-loop line i₀ i = (i ≤ length line) × (i + colon_in (drop i line) ≡ 5 + colon_in (drop 5 line))
 
 abbrev decreases-loop : tie.decreases-loop
 decreases-loop line i₀ i = length line - i
 
 found : tie.Need-returns invariant-loop decreases-loop
-found c = here _ _ c.before.before.before.loop.invariant.1 (search needs) c.if1.true
+found c = here _ _ c.before.before.before.loop.invariant.1 (search rules) c.if1.true
 
 loop-again : tie.Need-loop-preserved invariant-loop decreases-loop
-loop-again c = (search needs, colon-next _ _ c.before.before.before.loop.invariant.1 (search needs) c.if1.false)
+loop-again c = (search rules, colon_next _ _ c.before.before.before.loop.invariant.1 (search rules) c.if1.false)
 
 ends : tie.Need-returns-2 invariant-loop decreases-loop
-ends c = colon-nowhere _ _ c.before.loop.invariant.1 (search needs)
+ends c = colon_nowhere _ _ c.before.loop.invariant.1 (search rules)
 
-pub colon-spec : {M : Type 1} → statement M
-colon-spec = tie.close (tie.spec invariant-loop decreases-loop (λ c. (search needs, refl)) (search needs) found (search needs)
-    (search needs) loop-again ends)
+pub colon_spec : {M : Type 1} → statement M
+colon_spec = tie.close (tie.spec invariant-loop decreases-loop (λ c. (search rules, refl)) (search rules) found (search rules)
+    (search rules) loop-again ends)

@@ -1,5 +1,5 @@
 use Rattle.text.specs.Prelude.{ℕ, ◌≡◌, ◌=?◌}
-use Rattle.text.proofs.Prelude.{needs, refl, sym, yes=, no=, holds, fails}
+use Rattle.text.proofs.Prelude.{rules, refl, sym, yes=, no=, holds, fails}
 use lib.Dec.{eqb}
 use Rattle.held.specs.Held.{same_name}
 use Rattle.held.proofs.same_name.Statement.{statement}
@@ -10,11 +10,11 @@ last : (a b : ℕ) → (a =? b) ≡ eqb a b
 unfolding ◌=?◌
 last a b = refl
 
-pub same-name-spec : {M : Type 1} → statement M
+pub same_name_spec : {M : Type 1} → statement M
 unfolding same_name
-same-name-spec =
+same_name_spec =
     tie.close
     (tie.spec
-    (λ c. sym (fails _ (no= (search needs))))
-    (λ c. sym (holds (yes= (search needs)) (fails _ (no= (search needs)))))
-    (λ c. sym (holds (yes= (search needs)) (holds (yes= (search needs)) (last _ _)))))
+    (λ c. sym (fails _ (no= (search rules))))
+    (λ c. sym (holds (yes= (search rules)) (fails _ (no= (search rules)))))
+    (λ c. sym (holds (yes= (search rules)) (holds (yes= (search rules)) (last _ _)))))

@@ -1,5 +1,5 @@
 use Rattle.text.specs.Prelude.{◌-◌, ◌≡◌, length}
-use Rattle.text.proofs.Prelude.{needs}
+use Rattle.text.proofs.Prelude.{rules}
 use Rattle.joins.proofs.after_words.Statement.{statement}
 use Rattle.joins.proofs.after_words.Tie as tie
 
@@ -10,11 +10,11 @@ invariant-loop first words win₀ halves₀ i₀ win halves i = length win ≡ l
 abbrev decreases-loop : tie.decreases-loop
 decreases-loop first words win₀ halves₀ i₀ win halves i = words - i
 
-pub after-words-spec : {M : Type 1} → statement M
-after-words-spec =
+pub after_words_spec : {M : Type 1} → statement M
+after_words_spec =
     tie.close
     (tie.spec
     invariant-loop
     decreases-loop
-    (search needs) (search needs) (search needs) (search needs) (search needs) (search needs) (search needs)
-    (search needs))
+    (search rules) (search rules) (search rules) (search rules) (search rules) (search rules) (search rules)
+    (search rules))

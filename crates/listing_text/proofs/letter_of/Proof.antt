@@ -1,18 +1,18 @@
-use Rattle.text.specs.Prelude.{now}
-use Rattle.text.proofs.Prelude.{needs, arith, refl, first, second, yes≤, no≤, holds, fails, and}
+
+use Rattle.text.proofs.Prelude.{rules, arith, refl, first, second, yes≤, no≤, holds, fails, and}
 use lib.ListN.{get_or-eq_default}
-use Rattle.listing_text.specs.Line.{firstLetter}
+use Rattle.listing_text.specs.Line.{first_letter}
 use Rattle.listing_text.proofs.letter_of.Statement.{statement}
 use Rattle.listing_text.proofs.letter_of.Tie as tie
 
-pub letter-of-spec : {M : Type 1} → statement M
-unfolding firstLetter
-letter-of-spec =
+pub letter_of_spec : {M : Type 1} → statement M
+unfolding first_letter
+letter_of_spec =
     tie.close
     (tie.spec
     (λ c. second _
-    (fails _ (no≤ (omega (arith, get_or-eq_default (now c.before.args.line) 0 {n = 0} (omega arith))))) refl)
-    (search needs)
+    (fails _ (no≤ (omega (arith, get_or-eq_default (c.before.args.line.now) 0 {n = 0} (omega arith))))) refl)
+    (search rules)
     (λ c. second _ (fails _ (no≤ c.if2.true)) refl)
     (λ c. second _ (holds (yes≤ c.before.if2.false) (no≤ c.if3.true)) refl)
     (λ c. first _ (and (yes≤ c.before.if2.false) (yes≤ c.if3.false)) refl))

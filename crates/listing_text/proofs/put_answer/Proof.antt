@@ -1,13 +1,13 @@
-use Rattle.text.proofs.Prelude.{needs}
+use Rattle.text.proofs.Prelude.{rules}
 use Rattle.put.proofs.Writing.{then}
 use Rattle.trailer_text.specs.Answer.{plain}
 use Rattle.records.proofs.Answers.{number_is}
-use Rattle.listing_text.specs.Line.{answerText}
+use Rattle.listing_text.specs.Line.{answer_text}
 use Rattle.listing_text.proofs.put_answer.Statement.{statement}
 use Rattle.listing_text.proofs.put_answer.Tie as tie
 
 returns : tie.Need-returns
-unfolding answerText plain
+unfolding answer_text plain
 returns c =
     let answer = c.before.before in
     let second = answer.before.before.before.before.before in
@@ -17,10 +17,10 @@ returns c =
     at (then first.put_byte.ensures
     (then letter.put-byte2.ensures (then second.put-byte3.ensures answer.put-nat.ensures)))
 
-pub put-answer-spec : {M : Type 1} → statement M
-put-answer-spec =
+pub put_answer_spec : {M : Type 1} → statement M
+put_answer_spec =
     tie.close
     (tie.spec
-    (search needs) (search needs) (search needs) (search needs) (search needs) (search needs) (search needs)
-    (search needs)
+    (search rules) (search rules) (search rules) (search rules) (search rules) (search rules) (search rules)
+    (search rules)
     returns)

@@ -1,11 +1,11 @@
-use Rattle.text.proofs.Prelude.{needs}
+use Rattle.text.proofs.Prelude.{rules}
 use Rattle.put.proofs.Writing.{then}
-use Rattle.listing_text.specs.Line.{fixHeights}
+use Rattle.listing_text.specs.Line.{fix_heights}
 use Rattle.listing_text.proofs.put_fix.Statement.{statement}
 use Rattle.listing_text.proofs.put_fix.Tie as tie
 
 returns : tie.Need-returns
-unfolding fixHeights
+unfolding fix_heights
 returns c =
     let gps = c.before.before in
     let second = gps.before.before.before.before in
@@ -14,5 +14,5 @@ returns c =
     then first.put_byte.ensures
     (then pressure.put.ensures (then second.put-byte2.ensures gps.put2.ensures))
 
-pub put-fix-spec : {M : Type 1} → statement M
-put-fix-spec = tie.close (tie.spec (search needs) (search needs) (search needs) (search needs) (search needs) returns)
+pub put_fix_spec : {M : Type 1} → statement M
+put_fix_spec = tie.close (tie.spec (search rules) (search rules) (search rules) (search rules) (search rules) returns)

@@ -1,20 +1,20 @@
-use Rattle.text.proofs.Prelude.{needs, arith}
+use Rattle.text.proofs.Prelude.{rules, arith}
 use Rattle.put.proofs.Writing.{wrote_nothing}
-use Rattle.listing_text.specs.Line.{heightsOf}
+use Rattle.listing_text.specs.Line.{heights_of}
 use Rattle.listing_text.proofs.put_heights.Statement.{statement}
 use Rattle.listing_text.proofs.put_heights.Tie as tie
 
 fix : tie.Need-returns
-unfolding heightsOf
+unfolding heights_of
 fix c =
     let put = c.before.before in
     rw put.before.before.before.fix.given.1 put.put-fix.ensures
 
-pub put-heights-spec : {M : Type 1} → statement M
-unfolding heightsOf
-put-heights-spec =
+pub put_heights_spec : {M : Type 1} → statement M
+unfolding heights_of
+put_heights_spec =
     tie.close
     (tie.spec
-    (search needs) (search needs) (search needs) (search needs)
+    (search rules) (search rules) (search rules) (search rules)
     fix
     (λ c. rw c.enum_told.given.1 (wrote_nothing _ _ (omega arith) (omega arith))))

@@ -1,6 +1,6 @@
-use Rattle.files.proofs.Zeros.{zeros-long}
+use Rattle.files.proofs.Zeros.{zeros_long}
 use Rattle.listings.proofs.window.Statement.{statement}
 use Rattle.listings.proofs.window.Tie as tie
 
-pub window-spec : {M : Type 1} → statement M
-window-spec = tie.close (tie.spec (λ c. zeros-long 1048576 0))
+pub window_spec : {M : Type 1} → statement M
+window_spec = tie.close (tie.spec (λ c. zeros_long 1048576 0))

@@ -1,5 +1,5 @@
-use Rattle.text.proofs.Prelude.{needs, ap, ◌∙◌}
-use Rattle.moment.specs.Moment.{byIndex}
+use Rattle.text.proofs.Prelude.{rules, ap, ◌∙◌}
+use Rattle.moment.specs.Moment.{by_index}
 use Rattle.moment.proofs.find.Statement.{statement}
 use Rattle.moment.proofs.find.Tie as tie
 
@@ -7,5 +7,5 @@ pub find_spec : {M : Type 1} → statement M
 find_spec =
     tie.close
     (tie.spec
-    (search needs) (search needs)
-    (λ c. c.answer.ensures ∙ ap (byIndex _ _) c.before.from-hms.ensures))
+    (search rules) (search rules)
+    (λ c. c.answer.ensures ∙ ap (by_index _ _) c.before.from-hms.ensures))

@@ -1,7 +1,7 @@
 use Rattle.text.specs.Prelude.{ℕ, ◌≡◌, ◌=?◌}
-use Rattle.text.proofs.Prelude.{needs, refl, sym, yes=, no=, holds, fails}
+use Rattle.text.proofs.Prelude.{rules, refl, sym, yes=, no=, holds, fails}
 use lib.Dec.{eqb}
-use Rattle.moment_fix.specs.Fix.{sameTime}
+use Rattle.moment_fix.specs.Fix.{same_time_of}
 use Rattle.moment_fix.proofs.same_time.Statement.{statement}
 use Rattle.moment_fix.proofs.same_time.Tie as tie
 
@@ -10,11 +10,11 @@ last : (a b : ℕ) → (a =? b) ≡ eqb a b
 unfolding ◌=?◌
 last a b = refl
 
-pub same-time-spec : {M : Type 1} → statement M
-unfolding sameTime
-same-time-spec =
+pub same_time_spec : {M : Type 1} → statement M
+unfolding same_time_of
+same_time_spec =
     tie.close
     (tie.spec
-    (λ c. sym (fails _ (no= (search needs))))
-    (λ c. sym (holds (yes= (search needs)) (fails _ (no= (search needs)))))
-    (λ c. sym (holds (yes= (search needs)) (holds (yes= (search needs)) (last _ _)))))
+    (λ c. sym (fails _ (no= (search rules))))
+    (λ c. sym (holds (yes= (search rules)) (fails _ (no= (search rules)))))
+    (λ c. sym (holds (yes= (search rules)) (holds (yes= (search rules)) (last _ _)))))

@@ -1,4 +1,4 @@
-use Rattle.text.proofs.Prelude.{needs}
+use Rattle.text.proofs.Prelude.{rules}
 use Rattle.moment_text.proofs.put_answer.Statement.{statement}
 use Rattle.moment_text.proofs.put_answer.Tie as tie
 
@@ -9,6 +9,6 @@ returns c =
     let answer = line.before.before in
     rw (← answer.before.parse.ensures, ← answer.answer.ensures) line.put-line.ensures
 
-pub put-answer-spec : {M : Type 1} → statement M
-put-answer-spec =
-    tie.close (tie.spec (search needs) (search needs) (search needs) (search needs) returns)
+pub put_answer_spec : {M : Type 1} → statement M
+put_answer_spec =
+    tie.close (tie.spec (search rules) (search rules) (search rules) (search rules) returns)

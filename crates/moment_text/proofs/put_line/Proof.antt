@@ -1,12 +1,12 @@
-use Rattle.text.proofs.Prelude.{needs}
+use Rattle.text.proofs.Prelude.{rules}
 use Rattle.put.proofs.Writing.{then}
-use Rattle.moment_text.specs.Answers.{momentLine}
+use Rattle.moment_text.specs.Answers.{moment_line}
 use Rattle.moment_text.proofs.put_line.Statement.{statement}
 use Rattle.moment_text.proofs.put_line.Tie as tie
 
 -- the number that is put is the answer's
 returns : tie.Need-returns
-unfolding momentLine
+unfolding moment_line
 returns c =
     let lf = c.before.before in
     let found = lf.before.before.before.before in
@@ -16,9 +16,9 @@ returns c =
     at (then word.put-bytes.ensures
     (then number.show-number.ensures (then found.put-found.ensures lf.put_byte.ensures)))
 
-pub put-line-spec : {M : Type 1} → statement M
-put-line-spec =
+pub put_line_spec : {M : Type 1} → statement M
+put_line_spec =
     tie.close
     (tie.spec
-    (search needs) (search needs) (search needs) (search needs) (search needs) (search needs) (search needs)
+    (search rules) (search rules) (search rules) (search rules) (search rules) (search rules) (search rules)
     returns)

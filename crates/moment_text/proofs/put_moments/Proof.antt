@@ -1,18 +1,18 @@
-use Rattle.text.specs.Prelude.{◌+◌, ◌-◌, ◌*◌, ◌≤◌, ◌≡◌, take, drop, now}
-use Rattle.text.proofs.Prelude.{needs, arith, take_all}
+use Rattle.text.specs.Prelude.{◌+◌, ◌-◌, ◌*◌, ◌≤◌, ◌≡◌, take, drop}
+use Rattle.text.proofs.Prelude.{rules, arith, take_all}
 use Rattle.put.specs.Put.{Wrote}
-use Rattle.put.proofs.Writing.{wrote-length, wrote_nothing}
-use Rattle.log.specs.Fold.{texts}
-use Rattle.piece_text.proofs.Rows.{in-turn}
-use Rattle.moment_text.specs.Answers.{words_in, answerLine, momentsText}
-use Rattle.moment_text.proofs.Words.{length-words, word_at, own-answer}
+use Rattle.put.proofs.Writing.{wrote_length, wrote_nothing}
+use Rattle.igc_log.specs.Fold.{texts}
+use Rattle.piece_text.proofs.Rows.{in_turn}
+use Rattle.moment_text.specs.Answers.{words_in, answer_line, moments_text}
+use Rattle.moment_text.proofs.Words.{length_words, word_at, own_answer}
 use Rattle.moment_text.proofs.put_moments.Statement.{statement}
 use Rattle.moment_text.proofs.put_moments.Tie as tie
 
 -- the lines of the first i words are written
 abbrev invariant-loop : tie.invariant-loop
 invariant-loop buf₀ at log words index count end₀ i₀ buf end i =
-    (i ≤ count) × Wrote buf₀ at (texts (answerLine log) (take i (words_in words))) buf end
+    (i ≤ count) × Wrote buf₀ at (texts (answer_line log) (take i (words_in words))) buf end
 
 abbrev decreases-loop : tie.decreases-loop
 decreases-loop buf₀ at log words index count end₀ i₀ buf end i = count - i
@@ -30,28 +30,28 @@ again c =
     let a = o.before.before.before.before.before.args in
     let six : 6 * i + 6 - 6 * i ≡ 6 = omega arith in (
       omega arith,
-      in-turn (answerLine (now a.log)) (words_in (now a.words)) i (word_at (now a.words) i (omega arith))
+      in_turn (answer_line (a.log.now)) (words_in (a.words.now)) i (word_at (a.words.now) i (omega arith))
           o.loop.invariant.1
-          (rw (six, own-answer (now a.log) (take 6 (drop (6 * i) (now a.words))) o.before.index_of.ensures)
+          (rw (six, own_answer (a.log.now) (take 6 (drop (6 * i) (a.words.now))) o.before.index_of.ensures)
           at put.put-answer.ensures),
     )
 
 ends : tie.Need-returns invariant-loop decreases-loop
-unfolding momentsText
+unfolding moments_text
 ends c =
-    let words = now c.before.before.before.before.before.before.args.words in
-    rw (take_all c.before.loop.i (words_in words) (omega (arith, length-words words))) at c.before.loop.invariant.1
+    let words = c.before.before.before.before.before.before.args.words.now in
+    rw (take_all c.before.loop.i (words_in words) (omega (arith, length_words words))) at c.before.loop.invariant.1
 
-pub put-moments-spec : {M : Type 1} → statement M
-put-moments-spec =
+pub put_moments_spec : {M : Type 1} → statement M
+put_moments_spec =
     tie.close
     (tie.spec
     invariant-loop
     decreases-loop
-    (search needs)
+    (search rules)
     starts
-    (search needs) (search needs) (search needs) (search needs) (search needs) (search needs) (search needs)
-    (search needs)
+    (search rules) (search rules) (search rules) (search rules) (search rules) (search rules) (search rules)
+    (search rules)
     again
-    (λ c. wrote-length c.before.loop.invariant.1)
+    (λ c. wrote_length c.before.loop.invariant.1)
     ends)

@@ -1,5 +1,5 @@
 use Rattle.text.specs.Prelude.{◌-◌, ◌≡◌, length}
-use Rattle.text.proofs.Prelude.{needs}
+use Rattle.text.proofs.Prelude.{rules}
 use Rattle.moments.proofs.read_times.Statement.{statement}
 use Rattle.moments.proofs.read_times.Tie as tie
 
@@ -10,11 +10,11 @@ invariant-loop first count times₀ i₀ times i = length times ≡ length times
 abbrev decreases-loop : tie.decreases-loop
 decreases-loop first count times₀ i₀ times i = count - i
 
-pub read-times-spec : {M : Type 1} → statement M
-read-times-spec =
+pub read_times_spec : {M : Type 1} → statement M
+read_times_spec =
     tie.close
     (tie.spec
     invariant-loop
     decreases-loop
-    (search needs) (search needs) (search needs) (search needs) (search needs) (search needs) (search needs)
-    (search needs) (search needs) (search needs) (search needs))
+    (search rules) (search rules) (search rules) (search rules) (search rules) (search rules) (search rules)
+    (search rules) (search rules) (search rules) (search rules))

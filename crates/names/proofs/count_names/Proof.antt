@@ -1,5 +1,5 @@
 use Rattle.text.specs.Prelude.{◌-◌, ◌≤◌, ◌≡◌, length}
-use Rattle.text.proofs.Prelude.{needs, arith, refl}
+use Rattle.text.proofs.Prelude.{rules, arith, refl}
 use Rattle.names.proofs.count_names.Statement.{statement}
 use Rattle.names.proofs.count_names.Tie as tie
 
@@ -9,16 +9,16 @@ invariant-loop first count names₀ i₀ names i = (i ≤ count) × (length name
 abbrev decreases-loop : tie.decreases-loop
 decreases-loop first count names₀ i₀ names i = count - i
 
-pub count-names-spec : {M : Type 1} → statement M
-count-names-spec =
+pub count_names_spec : {M : Type 1} → statement M
+count_names_spec =
     tie.close
     (tie.spec
     invariant-loop
     decreases-loop
     (λ c. (omega arith, refl))
     (λ c κs. (omega arith, omega arith))
-    (search needs) (search needs)
+    (search rules) (search rules)
     (λ c. omega arith)
     (λ c. omega arith)
-    (search needs) (search needs)
-    (search needs))
+    (search rules) (search rules)
+    (search rules))

@@ -1,5 +1,5 @@
-use Rattle.text.proofs.Prelude.{needs}
-use Rattle.files.proofs.Filling.{ended-inside}
+use Rattle.text.proofs.Prelude.{rules}
+use Rattle.files.proofs.Filling.{ended_inside}
 use Rattle.paper.proofs.list.Statement.{statement}
 use Rattle.paper.proofs.list.Tie as tie
 
@@ -7,13 +7,13 @@ use Rattle.paper.proofs.list.Tie as tie
 inside : tie.Need-put-answer-requires
 inside c κs =
     let read = c.before.before.before in
-    (ended-inside read.read-on.result read.read-on.ensures, read.before.before.text-buffer.ensures)
+    (ended_inside read.read-on.result read.read-on.ensures, read.before.before.text-buffer.ensures)
 
-pub list-spec : {M : Type 1} → statement M
-list-spec =
+pub list_spec : {M : Type 1} → statement M
+list_spec =
     tie.close
     (tie.spec
-    (search needs) (search needs) (search needs) (search needs) (search needs) (search needs)
+    (search rules) (search rules) (search rules) (search rules) (search rules) (search rules)
     inside
-    (search needs) (search needs) (search needs) (search needs) (search needs)
-    (search needs))
+    (search rules) (search rules) (search rules) (search rules) (search rules)
+    (search rules))

@@ -1,21 +1,21 @@
 use Rattle.text.specs.Prelude.{ℤ}
-use Rattle.text.proofs.Prelude.{needs}
+use Rattle.text.proofs.Prelude.{rules}
 use mir.Syntax.{w64}
 use mir.Val.{SFits}
 use mir.Facts.{to_z-of_z}
 use Rattle.put.proofs.Writing.{then}
-use Rattle.positions_text.specs.Positions.{coordShown}
+use Rattle.positions_text.specs.Positions.{coord_shown}
 use Rattle.positions_text.proofs.put_coord.Statement.{statement}
 use Rattle.positions_text.proofs.put_coord.Tie as tie
 
 abbrev value : tie.Start → ℤ
 value c = c.args.coord.value
 
-fits : (c : tie.After-struct-told) → SFits w64 (value (search needs))
-fits c = search needs
+fits : (c : tie.After-struct-told) → SFits w64 (value (search rules))
+fits c = search rules
 
 returns : tie.Need-returns
-unfolding coordShown
+unfolding coord_shown
 returns c =
     let n = c.before.before in
     let second = n.before.before.before.before.before in
@@ -25,9 +25,9 @@ returns c =
     at (then first.put_byte.ensures
     (then number.put-int.ensures (then second.put-byte2.ensures n.put-nat.ensures)))
 
-pub put-coord-spec : {M : Type 1} → statement M
-put-coord-spec =
+pub put_coord_spec : {M : Type 1} → statement M
+put_coord_spec =
     tie.close
     (tie.spec
-    (search needs) (search needs) (search needs) (search needs) (search needs) (search needs)
+    (search rules) (search rules) (search rules) (search rules) (search rules) (search rules)
     returns)

@@ -1,11 +1,11 @@
-use Rattle.text.proofs.Prelude.{needs}
+use Rattle.text.proofs.Prelude.{rules}
 use Rattle.put.proofs.Writing.{then}
-use Rattle.positions_text.specs.Positions.{refusalShown}
+use Rattle.positions_text.specs.Positions.{refusal_shown}
 use Rattle.positions_text.proofs.put_refusal.Statement.{statement}
 use Rattle.positions_text.proofs.put_refusal.Tie as tie
 
 returns : tie.Need-returns
-unfolding refusalShown
+unfolding refusal_shown
 returns c =
     let place = c.before.before in
     let number = place.before.before.before.before.before in
@@ -13,9 +13,9 @@ returns c =
     rw (number.before.number.ensures, place.before.place.ensures)
     at (then space.put_byte.ensures (then number.put-nat.ensures place.put-place.ensures))
 
-pub put-refusal-spec : {M : Type 1} → statement M
-put-refusal-spec =
+pub put_refusal_spec : {M : Type 1} → statement M
+put_refusal_spec =
     tie.close
     (tie.spec
-    (search needs) (search needs) (search needs) (search needs) (search needs) (search needs) (search needs)
+    (search rules) (search rules) (search rules) (search rules) (search rules) (search rules) (search rules)
     returns)

@@ -1,7 +1,7 @@
 use Rattle.text.specs.Prelude.{ℕ, ◌+◌, ◌-◌, ◌≤◌, ◌≡◌, ◌≤?◌, largest}
-use Rattle.text.proofs.Prelude.{needs, arith, refl, sym, ◌∙◌, yes≤, no≤, is≤, isnt≤, holds, fails, tested, by-test}
+use Rattle.text.proofs.Prelude.{rules, arith, refl, sym, ◌∙◌, yes≤, no≤, is≤, isnt≤, holds, fails, tested, by_test}
 use lib.Dec.{leb}
-use Rattle.products.specs.Feed.{isReady}
+use Rattle.products.specs.Feed.{is_ready_of}
 use Rattle.products.proofs.is_ready.Statement.{statement}
 use Rattle.products.proofs.is_ready.Tie as tie
 
@@ -9,20 +9,20 @@ use Rattle.products.proofs.is_ready.Tie as tie
 room : (a n : ℕ) → a ≤ largest → leb n (largest - a) ≡ (a + n ≤? largest)
 room a n h =
     sym (tested n (largest - a))
-    ∙ by-test (a + n ≤? largest) (λ e. yes≤ (omega (arith, is≤ e)) ∙ sym e) (λ e. no≤ (omega (arith, isnt≤ e)) ∙ sym e)
+    ∙ by_test (a + n ≤? largest) (λ e. yes≤ (omega (arith, is≤ e)) ∙ sym e) (λ e. no≤ (omega (arith, isnt≤ e)) ∙ sym e)
 
-pub is-ready-spec : {M : Type 1} → statement M
-unfolding isReady
-is-ready-spec =
+pub is_ready_spec : {M : Type 1} → statement M
+unfolding is_ready_of
+is_ready_spec =
     tie.close
     (tie.spec
-    (search needs)
+    (search rules)
     (λ c. sym (fails _ (no≤ (omega arith))))
-    (search needs)
+    (search rules)
     (λ c. sym (holds (yes≤ (omega arith)) (fails _ (no≤ (omega arith)))))
-    (search needs)
+    (search rules)
     (λ c. sym (holds (yes≤ (omega arith)) (holds (yes≤ (omega arith)) (fails _ (no≤ (omega arith))))))
-    (search needs)
+    (search rules)
     (λ c.
     room _ _ (omega arith)
     ∙ sym (holds (yes≤ (omega arith)) (holds (yes≤ (omega arith)) (holds (yes≤ (omega arith)) refl)))))

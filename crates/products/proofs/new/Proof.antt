@@ -1,12 +1,12 @@
-use Rattle.text.proofs.Prelude.{needs}
-use Rattle.products.specs.Feed.{atFirst}
+use Rattle.text.proofs.Prelude.{rules}
+use Rattle.products.specs.Feed.{at_first_of}
 use Rattle.products.proofs.new.Statement.{statement}
 use Rattle.products.proofs.new.Tie as tie
 
 pub new_spec : {M : Type 1} → statement M
-unfolding atFirst
+unfolding at_first_of
 new_spec =
     tie.close
     (tie.spec
-    (search needs) (search needs) (search needs)
+    (search rules) (search rules) (search rules)
     (λ c. rw (c.before.before.new.ensures, c.before.new2.ensures, c.new3.ensures)))

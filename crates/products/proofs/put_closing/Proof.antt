@@ -1,15 +1,15 @@
-use Rattle.text.proofs.Prelude.{needs, arith}
+use Rattle.text.proofs.Prelude.{rules, arith}
 use Rattle.put.proofs.Writing.{wrote_nothing}
 use Rattle.products.specs.Product.{closing}
 use Rattle.products.proofs.put_closing.Statement.{statement}
 use Rattle.products.proofs.put_closing.Tie as tie
 
-pub put-closing-spec : {M : Type 1} → statement M
+pub put_closing_spec : {M : Type 1} → statement M
 unfolding closing
-put-closing-spec =
+put_closing_spec =
     tie.close
     (tie.spec
-    (search needs) (search needs) (search needs) (search needs) (search needs)
+    (search rules) (search rules) (search rules) (search rules) (search rules)
     (λ c. let put = c.before.before in rw put.before.before.enum_told.given.1 put.put.ensures)
     (λ c. rw c.enum-told2.given.1 (wrote_nothing _ _ (omega arith) (omega arith)))
     (λ c. rw c.enum-told3.given.1 (wrote_nothing _ _ (omega arith) (omega arith))))

@@ -1,9 +1,9 @@
 use Rattle.text.specs.Prelude.{◌+◌, ◌-◌, ◌≤◌, ◌<◌, length, largest}
-use Rattle.text.proofs.Prelude.{needs, arith, ◌∙◌}
-use Rattle.put.proofs.Writing.{wrote-length}
-use Rattle.walk.proofs.Turns.{less-left}
+use Rattle.text.proofs.Prelude.{rules, arith, ◌∙◌}
+use Rattle.put.proofs.Writing.{wrote_length}
+use Rattle.walk.proofs.Turns.{less_left}
 use Rattle.products.specs.declared.Carried.{Carried}
-use Rattle.products.proofs.Feeding.{Feeding, at-start, at-end, place-small, counts-small, line, full}
+use Rattle.products.proofs.Feeding.{Feeding, at_start, at_end, place_small, counts_small, line, full}
 use Rattle.products.proofs.put_ready.Statement.{statement}
 use Rattle.products.proofs.put_ready.Tie as tie
 
@@ -18,11 +18,11 @@ decreases-loop product lines names buf₀ base held₀ number₀ trailer₀ take
     length lines - taken
 
 loop-holds : tie.Need-loop-init invariant-loop decreases-loop
-loop-holds c = at-start c.before.before.before.before.before.requires (omega arith)
+loop-holds c = at_start c.before.before.before.before.before.requires (omega arith)
 
 -- the text of the line here has no room
-full-here : tie.Need-returns invariant-loop decreases-loop
-full-here c =
+full_here : tie.Need-returns invariant-loop decreases-loop
+full_here c =
     let put = c.before.before.before in
     let after = put.before.before in
     let view = after.before in
@@ -35,13 +35,13 @@ same_length : tie.Need-same-length invariant-loop decreases-loop
 same_length c =
     let put = c.before.before.before in
     let test = put.before.before.before.before.before.before in
-    wrote-length put.put-line.ensures ∙ wrote-length test.before.loop.invariant.wrote
+    wrote_length put.put-line.ensures ∙ wrote_length test.before.loop.invariant.wrote
 
 loop-less : tie.Need-loop-smaller invariant-loop decreases-loop
 loop-less c =
     let read = c.before.before.before.before.before.before.before.before.before in
     let test = read.before in
-    less-left test.loop-test.true test.before.loop.invariant.reached read.read_at.ensures
+    less_left test.loop-test.true test.before.loop.invariant.reached read.read_at.ensures
 
 loop-again : tie.Need-loop-preserved invariant-loop decreases-loop
 loop-again c =
@@ -55,32 +55,32 @@ loop-again c =
     after.after.ensures put.put-line.ensures c.after2.ensures room.if1.false
 
 -- no place passes 64 bits
-place-fits : (c : tie.At-loop invariant-loop decreases-loop) →
+place_fits : (c : tie.At-loop invariant-loop decreases-loop) →
     c.before.before.before.before.before.before.args.c.at.place + c.loop.taken ≤ largest
-place-fits c = place-small c.loop.invariant
+place_fits c = place_small c.loop.invariant
 
 -- no number of a line does
 number_fits : (c : tie.In-loop invariant-loop decreases-loop) → c.before.loop.number < largest
-number_fits c = (counts-small c.before.loop.invariant c.loop-test.true).0
+number_fits c = (counts_small c.before.loop.invariant c.loop-test.true).0
 
-pub put-ready-spec : {M : Type 1} → statement M
-put-ready-spec =
+pub put_ready_spec : {M : Type 1} → statement M
+put_ready_spec =
     tie.close
     (tie.spec
     invariant-loop
     decreases-loop
     loop-holds
-    (search needs) (search needs) (search needs)
-    (λ c. omega (arith, number_fits (search needs)))
-    (search needs)
-    (λ c. omega (arith, place-fits (search needs)))
+    (search rules) (search rules) (search rules)
+    (λ c. omega (arith, number_fits (search rules)))
+    (search rules)
+    (λ c. omega (arith, place_fits (search rules)))
     same_length
-    full-here
-    (λ c. omega (arith, place-fits (search needs)))
-    (search needs)
-    (λ c. omega (arith, number_fits (search needs)))
+    full_here
+    (λ c. omega (arith, place_fits (search rules)))
+    (search rules)
+    (λ c. omega (arith, number_fits (search rules)))
     loop-less
     loop-again
-    (λ c. omega (arith, place-fits (search needs)))
-    (λ c. wrote-length c.before.loop.invariant.wrote)
-    (λ c. at-end c.before.loop.invariant c.loop-test.false))
+    (λ c. omega (arith, place_fits (search rules)))
+    (λ c. wrote_length c.before.loop.invariant.wrote)
+    (λ c. at_end c.before.loop.invariant c.loop-test.false))

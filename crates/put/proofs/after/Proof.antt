@@ -1,4 +1,4 @@
-use Rattle.text.proofs.Prelude.{needs, arith}
+use Rattle.text.proofs.Prelude.{rules, arith}
 use Rattle.put.proofs.after.Statement.{statement}
 use Rattle.put.proofs.after.Tie as tie
 
@@ -9,5 +9,5 @@ past c = omega arith
 inside : tie.Need-returns-2
 inside c = omega arith
 
-pub after-spec : {M : Type 1} → statement M
-after-spec = tie.close (tie.spec (search needs) (search needs) past inside)
+pub after_spec : {M : Type 1} → statement M
+after_spec = tie.close (tie.spec (search rules) (search rules) past inside)

@@ -1,7 +1,7 @@
 -- A walk of the MIR by hand, after the kit's reader/next: the reader is taken apart, and `line_at` is called on its log
 -- and its place. All that is known of `line_at` is its contract.
 use denote.Ref.{Bor}
-use Rattle.text.specs.Prelude.{ℕ, ◌^◌, ◌<◌, List, [], ◌∷◌, RefT, now}
+use Rattle.text.specs.Prelude.{ℕ, ◌^◌, ◌<◌, List, [], ◌∷◌, RefT}
 use Rattle.text.proofs.Prelude.{refl}
 use lib.Dec.{T as Holds}
 use seplogic.Ra.Ura.{Ura}
@@ -39,12 +39,12 @@ use denote.Triple.Clauses.{ensured, lasts}
 use Rattle.part.specs.Part.{Shows}
 use Rattle.reader.specs.Reader.{part_at}
 use Rattle.reader.specs.declared.LogReader.{LogReader}
-use Rattle.reader.proofs.Apart.{B, D, L, whole_val, log-val, Own, OwnLog, log-of}
+use Rattle.reader.proofs.Apart.{B, D, L, whole_val, log_val, Own, OwnLog, log_of}
 use Rattle.reader.proofs.LogReader.TheLaws as T'
-use Rattle.log.specs.contracts.line_at as callee
-use Rattle.log.proofs.line_at.Symbol as callee-def
-use Rattle.log.proofs.line_at.Symbol.{name as #log·line-at}
-use Rattle.log.proofs.line_at.Met as callee-thm
+use Rattle.igc_log.specs.contracts.line_at as callee
+use Rattle.igc_log.proofs.line_at.Symbol as callee-def
+use Rattle.igc_log.proofs.line_at.Symbol.{name as #log·line-at}
+use Rattle.igc_log.proofs.line_at.Met as callee-thm
 use Rattle.reader.specs.contracts.line.Key.{name as #reader·line}
 use Rattle.reader.specs.contracts.line as line
 use Rattle.reader.proofs.line.Statement as stated
@@ -64,7 +64,7 @@ module _ {M : Type 1} {𝓤 : Ura M} (𝓛 : Logic 𝓤) (mem : Memory → SProp
   open 𝓛 use {H}
 
   abbrev Found : Bor (List ℕ) → Type 0
-  Found r = Shows d.log (part_at d.place (now d.log)) r
+  Found r = Shows d.log (part_at d.place (d.log.now)) r
 
   -- the result's type
   abbrev S : RattleType
@@ -76,7 +76,7 @@ module _ {M : Type 1} {𝓤 : Ura M} (𝓛 : Logic 𝓤) (mem : Memory → SProp
 
   -- what the callee is passed
   abbrev passed : Vals callee.signature (κ, tt)
-  passed = (log-val d ∷ [], (vint w64 d.place ∷ [], tt))
+  passed = (log_val d ∷ [], (vint w64 d.place ∷ [], tt))
 
   abbrev to : (LineAt 𝓛 mem run).Ghost
   to = (((κ, tt), (q, tt), tt, (d.log, (d.place, tt)), passed), tt)
@@ -91,7 +91,7 @@ module _ {M : Type 1} {𝓤 : Ura M} (𝓛 : Logic 𝓤) (mem : Memory → SProp
       (sep 𝓤 ((LineAt 𝓛 mem run).pre to) (sem 𝓛 (Own κ d)))
   apart fits =
       qed 𝓛 ((‵ (flft κ q) ⊛ ‵ ftrue) ∷ ‵ (owns (B (κ, tt) ∷ []) (d, tt) (whole_val d ∷ [], tt)) ∷ []) ∵
-      move ! (1 ∷ []) $ fsplit ! $ move ! (1 ∷ []) $ drop ! $ use1 𝓛 (‵ (OwnLog κ d) ⊛ ‵ (Own κ d)) (log-of 𝓛 κ d)
+      move ! (1 ∷ []) $ fsplit ! $ move ! (1 ∷ []) $ drop ! $ use1 𝓛 (‵ (OwnLog κ d) ⊛ ‵ (Own κ d)) (log_of 𝓛 κ d)
       $ split ! $
       -- [what log owns; what the reader owns; the token]
       nothing ! $ owned ! usize (Is usize) (uint_Makes 𝓛 w64) d.place _ (refl, fits) $ fjoin !
@@ -148,28 +148,28 @@ module _ {M : Type 1} {𝓤 : Ura M} (𝓛 : Logic 𝓤) (mem : Memory → SProp
     (run : Routine → Fun 𝓤) where
   open 𝓛 use {H}
 
-  line-walks : (C : Calls 𝓤 H) (Λ : Loops 𝓤 H) → FmC 𝓤 H 𝓛.laws C → Triple 𝓤 (C #log·line-at) (LineAt 𝓛 mem run)
+  line_walks : (C : Calls 𝓤 H) (Λ : Loops 𝓤 H) → FmC 𝓤 H 𝓛.laws C → Triple 𝓤 (C #log·line-at) (LineAt 𝓛 mem run)
       → Walks 𝓛 line.ended stayed (WpFn 𝓤 H C Λ code.function) (line.clauses 𝓛 mem run)
-  line-walks C Λ fm known = walked 𝓛 line.ended stayed (line.clauses 𝓛 mem run) (WpFn 𝓤 H C Λ code.function)
+  line_walks C Λ fm known = walked 𝓛 line.ended stayed (line.clauses 𝓛 mem run) (WpFn 𝓤 H C Λ code.function)
       (λ κs. (LL.vals (D κs) (L κs), tt)) (λ κs. (LL.tells (D κs) (L κs), tt))
       (λ κs qs bounds a g are. via 𝓤 _ (fst∗ 𝓤 _ (emp 𝓤))
       (walk 𝓛 mem run κs.0 qs.0 a.0 C Λ fm known
       ((LL.lawful (D κs) (L κs) 𝓛).typed a.0 _ are.0).0))
 
-line-meets : {M : Type 1} {𝓤 : Ura M} (𝓛 : Logic 𝓤) (mem : Memory → SProp 𝓤)
+line_meets : {M : Type 1} {𝓤 : Ura M} (𝓛 : Logic 𝓤) (mem : Memory → SProp 𝓤)
     (run : Routine → Fun 𝓤) (𝓣 : Tables 𝓤 𝓛.H)
     → Triple 𝓤 (𝓣.C #log·line-at) (LineAt 𝓛 mem run)
     → Meets 𝓛 line.signature (WpFn 𝓤 𝓛.H 𝓣.C 𝓣.Λ code.function) (line.spec 𝓛 mem run)
-line-meets {𝓤 = 𝓤} 𝓛 mem run 𝓣 known-callee = walk_Meets 𝓛 line.ended stayed
+line_meets {𝓤 = 𝓤} 𝓛 mem run 𝓣 known-callee = walk_Meets 𝓛 line.ended stayed
     (Goes-none 𝓛 1 B yes (λ κs x f. refl), tt) (line.clauses 𝓛 mem run) (WpFn 𝓤 𝓛.H 𝓣.C 𝓣.Λ code.function)
     (WpFn-mono 𝓤 𝓛.H 𝓛.laws 𝓣 code.function)
-    (line-walks 𝓛 mem run 𝓣.C 𝓣.Λ (fm_of 𝓤 𝓛.H 𝓛.laws 𝓣) known-callee)
+    (line_walks 𝓛 mem run 𝓣.C 𝓣.Λ (fm_of 𝓤 𝓛.H 𝓛.laws 𝓣) known-callee)
 
-pub line-spec : {M : Type 1} → stated.statement M
+pub line_spec : {M : Type 1} → stated.statement M
 unfolding code.routine tables_of
-line-spec 𝓤 𝓛 𝓜 𝓡 =
+line_spec 𝓤 𝓛 𝓜 𝓡 =
     entered 𝓤 𝓛.H (triple_of 𝓛 line.signature (line.spec 𝓛 𝓜.mem 𝓡.run))
     (tables 𝓤 𝓛.H 𝓜 𝓡 code.env).C (tables 𝓤 𝓛.H 𝓜 𝓡 code.env).Λ #reader·line code.function (code.unfolded 𝓤 𝓛.H 𝓜 𝓡)
-    (line-meets 𝓛 𝓜.mem 𝓡.run (tables_of 𝓤 𝓛.H 𝓜 (tables 𝓤 𝓛.H 𝓜 𝓡 code.env))
+    (line_meets 𝓛 𝓜.mem 𝓡.run (tables_of 𝓤 𝓛.H 𝓜 (tables 𝓤 𝓛.H 𝓜 𝓡 code.env))
     (cited 𝓤 𝓛.H (LineAt 𝓛 𝓜.mem 𝓡.run) 𝓜 𝓡 code.env #log·line-at callee-def.routine code.calls-log::line-at
     (callee-thm.met 𝓤 𝓛 𝓜 𝓡)))

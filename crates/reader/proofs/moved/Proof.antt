@@ -34,9 +34,9 @@ use denote.Exit.{yes}
 use Rattle.cursor.specs.declared.Cursor.{Cursor}
 use Rattle.cursor.specs.contracts.Cursor as U
 use Rattle.cursor.proofs.Cursor.TheLaws as U'
-use Rattle.reader.specs.Reader.{readerAt}
+use Rattle.reader.specs.Reader.{reader_at}
 use Rattle.reader.specs.declared.LogReader.{LogReader}
-use Rattle.reader.proofs.Apart.{B, D, L, whole_val, Own, OwnLog, log-of}
+use Rattle.reader.proofs.Apart.{B, D, L, whole_val, Own, OwnLog, log_of}
 use Rattle.reader.proofs.LogReader.TheLaws as T'
 use Rattle.reader.specs.contracts.moved.Key.{name as #reader·moved}
 use Rattle.reader.specs.contracts.moved as moved
@@ -51,7 +51,7 @@ module _ {M : Type 1} {𝓤 : Ura M} (𝓛 : Logic 𝓤) (mem : Memory → SProp
   open 𝓛 use {H}
 
   abbrev made : LogReader
-  made = readerAt d.log c
+  made = reader_at d.log c
 
   abbrev at : Vals moved.signature (κ, tt)
   at = (whole_val d ∷ [], (U'.lowered c ∷ [], tt))
@@ -67,7 +67,7 @@ module _ {M : Type 1} {𝓤 : Ura M} (𝓛 : Logic 𝓤) (mem : Memory → SProp
         suffices ! _ (ends_at 𝓛 moved.ended stayed (moved.clauses 𝓛 mem run)
         (((κ, tt), (q, tt), tt, (d, (c, tt)), at), tt) (whole_val made) made (tt, (tt, tt)) (tt, (tt, tt)))
         $ says ! refl $
-        frame ! $ fsplit ! $ use1 𝓛 (‵ (OwnLog κ d) ⊛ ‵ (Own κ d)) (log-of 𝓛 κ d) $ split ! $ move ! (1 ∷ 2 ∷ [])
+        frame ! $ fsplit ! $ use1 𝓛 (‵ (OwnLog κ d) ⊛ ‵ (Own κ d)) (log_of 𝓛 κ d) $ split ! $ move ! (1 ∷ 2 ∷ [])
         $ fjoin ! $ frame ! $
         -- [what log owns]: what the fields own together, of it and of the numbers' facts, is what the struct owns
         nothing ! $ owned ! u64 (Is u64) (uint_Makes 𝓛 w64) c.number _ (refl, wc.1.1.0.fits) $ fjoin ! $
@@ -100,9 +100,9 @@ module _ {M : Type 1} {𝓤 : Ura M} (𝓛 : Logic 𝓤) (mem : Memory → SProp
     (run : Routine → Fun 𝓤) where
   open 𝓛 use {H}
 
-  moved-walks : (C : Calls 𝓤 H) (Λ : Loops 𝓤 H) → Walks 𝓛 moved.ended stayed (WpFn 𝓤 H C Λ code.function)
+  moved_walks : (C : Calls 𝓤 H) (Λ : Loops 𝓤 H) → Walks 𝓛 moved.ended stayed (WpFn 𝓤 H C Λ code.function)
       (moved.clauses 𝓛 mem run)
-  moved-walks C Λ = walked 𝓛 moved.ended stayed (moved.clauses 𝓛 mem run) (WpFn 𝓤 H C Λ code.function)
+  moved_walks C Λ = walked 𝓛 moved.ended stayed (moved.clauses 𝓛 mem run) (WpFn 𝓤 H C Λ code.function)
       (λ κs. (LL.vals (D κs) (L κs), (LL.vals U.the_type U'.the_laws, tt)))
       (λ κs. (LL.tells (D κs) (L κs), (LL.tells U.the_type U'.the_laws, tt)))
       (λ κs qs bounds a g are. via 𝓤 _ (fst∗ 𝓤 _ (emp 𝓤))
@@ -110,17 +110,17 @@ module _ {M : Type 1} {𝓤 : Ura M} (𝓛 : Logic 𝓤) (mem : Memory → SProp
       ((LL.lawful U.the_type U'.the_laws 𝓛).typed a.1.0 _ are.1.0).0 C Λ
       ((LL.lawful (D κs) (L κs) 𝓛).typed a.0 _ are.0).0))
 
-moved-meets : {M : Type 1} {𝓤 : Ura M} (𝓛 : Logic 𝓤) → (mem : Memory → SProp 𝓤)
+moved_meets : {M : Type 1} {𝓤 : Ura M} (𝓛 : Logic 𝓤) → (mem : Memory → SProp 𝓤)
     (run : Routine → Fun 𝓤) (𝓣 : Tables 𝓤 𝓛.H)
     → Meets 𝓛 moved.signature (WpFn 𝓤 𝓛.H 𝓣.C 𝓣.Λ code.function) (moved.spec 𝓛 mem run)
-moved-meets {𝓤 = 𝓤} 𝓛 mem run 𝓣 = walk_Meets 𝓛 moved.ended stayed
+moved_meets {𝓤 = 𝓤} 𝓛 mem run 𝓣 = walk_Meets 𝓛 moved.ended stayed
     (Goes-none 𝓛 1 B yes (λ κs x f. refl), (Goes-none 𝓛 1 (λ _. U.the_row) yes (λ κs x f. refl), tt))
     (moved.clauses 𝓛 mem run) (WpFn 𝓤 𝓛.H 𝓣.C 𝓣.Λ code.function) (WpFn-mono 𝓤 𝓛.H 𝓛.laws 𝓣 code.function)
-    (moved-walks 𝓛 mem run 𝓣.C 𝓣.Λ)
+    (moved_walks 𝓛 mem run 𝓣.C 𝓣.Λ)
 
-pub moved-spec : {M : Type 1} → stated.statement M
+pub moved_spec : {M : Type 1} → stated.statement M
 unfolding code.routine tables_of
-moved-spec 𝓤 𝓛 𝓜 𝓡 =
+moved_spec 𝓤 𝓛 𝓜 𝓡 =
     entered 𝓤 𝓛.H (triple_of 𝓛 moved.signature (moved.spec 𝓛 𝓜.mem 𝓡.run))
     (tables 𝓤 𝓛.H 𝓜 𝓡 code.env).C (tables 𝓤 𝓛.H 𝓜 𝓡 code.env).Λ #reader·moved code.function (code.unfolded 𝓤 𝓛.H 𝓜 𝓡)
-    (moved-meets 𝓛 𝓜.mem 𝓡.run (tables_of 𝓤 𝓛.H 𝓜 (tables 𝓤 𝓛.H 𝓜 𝓡 code.env)))
+    (moved_meets 𝓛 𝓜.mem 𝓡.run (tables_of 𝓤 𝓛.H 𝓜 (tables 𝓤 𝓛.H 𝓜 𝓡 code.env)))

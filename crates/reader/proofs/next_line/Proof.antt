@@ -1,6 +1,6 @@
 -- A walk of the MIR by hand, after the kit's reader/overlap: the reader is taken apart, and `next_at` is called on its
 -- fields, in their order. All that is known of `next_at` is its contract.
-use Rattle.text.specs.Prelude.{◌≡◌, [], ◌∷◌, now}
+use Rattle.text.specs.Prelude.{◌≡◌, [], ◌∷◌}
 use Rattle.text.proofs.Prelude.{refl}
 use lib.Dec.{T as Holds}
 use seplogic.Ra.Ura.{Ura}
@@ -39,9 +39,9 @@ use Rattle.cursor.specs.Cursor.{next_of}
 use Rattle.cursor.specs.declared.Next.{Next}
 use Rattle.cursor.specs.contracts.Next as S
 use Rattle.cursor.proofs.Next.TheLaws as S'
-use Rattle.reader.specs.Reader.{cursorOf}
+use Rattle.reader.specs.Reader.{cursor_of}
 use Rattle.reader.specs.declared.LogReader.{LogReader}
-use Rattle.reader.proofs.Apart.{B, D, L, whole_val, log-val, Own, OwnFields, fields}
+use Rattle.reader.proofs.Apart.{B, D, L, whole_val, log_val, Own, OwnFields, fields}
 use Rattle.reader.proofs.LogReader.TheLaws as T'
 use Rattle.reader.specs.contracts.next_at as callee
 use Rattle.reader.proofs.next_at.Symbol as callee-def
@@ -65,7 +65,7 @@ module _ {M : Type 1} {𝓤 : Ura M} (𝓛 : Logic 𝓤) (mem : Memory → SProp
   open 𝓛 use {H}
 
   abbrev found : Next
-  found = next_of (now d.log) (cursorOf d)
+  found = next_of (d.log.now) (cursor_of d)
 
   abbrev Post : Val → SProp 𝓤
   Post = (walk_of 𝓛 stepped.ended stayed (stepped.clauses 𝓛 mem run)).post
@@ -73,7 +73,7 @@ module _ {M : Type 1} {𝓤 : Ura M} (𝓛 : Logic 𝓤) (mem : Memory → SProp
 
   -- what the callee is passed
   abbrev passed : Vals callee.signature (κ, tt)
-  passed = (log-val d ∷ [], (vint w64 d.place ∷ [], (vint w64 d.number ∷ [], tt)))
+  passed = (log_val d ∷ [], (vint w64 d.place ∷ [], (vint w64 d.number ∷ [], tt)))
 
   abbrev to : (NextAt 𝓛 mem run).Ghost
   to = (((κ, tt), (q, tt), tt, (d.log, (d.place, (d.number, tt))), passed), tt)
@@ -148,29 +148,29 @@ module _ {M : Type 1} {𝓤 : Ura M} (𝓛 : Logic 𝓤) (mem : Memory → SProp
     (run : Routine → Fun 𝓤) where
   open 𝓛 use {H}
 
-  next-line-walks : (C : Calls 𝓤 H) (Λ : Loops 𝓤 H) → FmC 𝓤 H 𝓛.laws C → Triple 𝓤 (C #reader·next-at)
+  next_line_walks : (C : Calls 𝓤 H) (Λ : Loops 𝓤 H) → FmC 𝓤 H 𝓛.laws C → Triple 𝓤 (C #reader·next-at)
       (NextAt 𝓛 mem run)
       → Walks 𝓛 stepped.ended stayed (WpFn 𝓤 H C Λ code.function) (stepped.clauses 𝓛 mem run)
-  next-line-walks C Λ fm known = walked 𝓛 stepped.ended stayed (stepped.clauses 𝓛 mem run)
+  next_line_walks C Λ fm known = walked 𝓛 stepped.ended stayed (stepped.clauses 𝓛 mem run)
       (WpFn 𝓤 H C Λ code.function) (λ κs. (LL.vals (D κs) (L κs), tt)) (λ κs. (LL.tells (D κs) (L κs), tt))
       (λ κs qs bounds a g are. via 𝓤 _ (fst∗ 𝓤 _ (emp 𝓤))
       (walk 𝓛 mem run κs.0 qs.0 a.0 C Λ fm known
       ((LL.lawful (D κs) (L κs) 𝓛).typed a.0 _ are.0).0))
 
-next-line-meets : {M : Type 1} {𝓤 : Ura M} (𝓛 : Logic 𝓤) (mem : Memory → SProp 𝓤)
+next_line_meets : {M : Type 1} {𝓤 : Ura M} (𝓛 : Logic 𝓤) (mem : Memory → SProp 𝓤)
     (run : Routine → Fun 𝓤) (𝓣 : Tables 𝓤 𝓛.H)
     → Triple 𝓤 (𝓣.C #reader·next-at) (NextAt 𝓛 mem run)
     → Meets 𝓛 stepped.signature (WpFn 𝓤 𝓛.H 𝓣.C 𝓣.Λ code.function) (stepped.spec 𝓛 mem run)
-next-line-meets {𝓤 = 𝓤} 𝓛 mem run 𝓣 known-callee = walk_Meets 𝓛 stepped.ended stayed
+next_line_meets {𝓤 = 𝓤} 𝓛 mem run 𝓣 known-callee = walk_Meets 𝓛 stepped.ended stayed
     (Goes-none 𝓛 1 B yes (λ κs x f. refl), tt) (stepped.clauses 𝓛 mem run)
     (WpFn 𝓤 𝓛.H 𝓣.C 𝓣.Λ code.function) (WpFn-mono 𝓤 𝓛.H 𝓛.laws 𝓣 code.function)
-    (next-line-walks 𝓛 mem run 𝓣.C 𝓣.Λ (fm_of 𝓤 𝓛.H 𝓛.laws 𝓣) known-callee)
+    (next_line_walks 𝓛 mem run 𝓣.C 𝓣.Λ (fm_of 𝓤 𝓛.H 𝓛.laws 𝓣) known-callee)
 
-pub next-line-spec : {M : Type 1} → stated.statement M
+pub next_line_spec : {M : Type 1} → stated.statement M
 unfolding code.routine tables_of
-next-line-spec 𝓤 𝓛 𝓜 𝓡 =
+next_line_spec 𝓤 𝓛 𝓜 𝓡 =
     entered 𝓤 𝓛.H (triple_of 𝓛 stepped.signature (stepped.spec 𝓛 𝓜.mem 𝓡.run))
     (tables 𝓤 𝓛.H 𝓜 𝓡 code.env).C (tables 𝓤 𝓛.H 𝓜 𝓡 code.env).Λ #reader·next-line code.function (code.unfolded 𝓤 𝓛.H 𝓜 𝓡)
-    (next-line-meets 𝓛 𝓜.mem 𝓡.run (tables_of 𝓤 𝓛.H 𝓜 (tables 𝓤 𝓛.H 𝓜 𝓡 code.env))
+    (next_line_meets 𝓛 𝓜.mem 𝓡.run (tables_of 𝓤 𝓛.H 𝓜 (tables 𝓤 𝓛.H 𝓜 𝓡 code.env))
     (cited 𝓤 𝓛.H (NextAt 𝓛 𝓜.mem 𝓡.run) 𝓜 𝓡 code.env #reader·next-at callee-def.routine
     code.calls-reader::next-at (callee-thm.met 𝓤 𝓛 𝓜 𝓡)))

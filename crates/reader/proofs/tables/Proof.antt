@@ -1,7 +1,7 @@
 -- A walk of the MIR by hand, after the kit's reader/next: the reader is taken apart, and `tables_at` is called on its
 -- log, its place and what is held. All that is known of `tables_at` is its contract. What held owns is made anew where
 -- it is asked.
-use Rattle.text.specs.Prelude.{◌^◌, ◌<◌, ◌≡◌, [], ◌∷◌, now}
+use Rattle.text.specs.Prelude.{◌^◌, ◌<◌, ◌≡◌, [], ◌∷◌}
 use Rattle.text.proofs.Prelude.{refl}
 use lib.Dec.{T as Holds}
 use seplogic.Ra.Ura.{Ura}
@@ -37,13 +37,13 @@ use denote.Triple.Table.{entered, cited}
 use denote.Triple.Walked.{says, Stays, stay_none, walk_of, Goes-none, Walks, ends_at, walked, walk_Meets}
 use denote.Exit.{yes}
 use denote.Triple.Clauses.{ensured, lasts}
-use Rattle.held.specs.Tables.{tablesAfter}
+use Rattle.held.specs.Tables.{tables_after}
 use Rattle.held.specs.declared.tables.Tables.{Tables}
 use Rattle.held.specs.contracts.tables.Tables as U
 use Rattle.held.proofs.tables.Tables.TheLaws as U'
-use Rattle.reader.specs.Reader.{textAt}
+use Rattle.reader.specs.Reader.{text_at}
 use Rattle.reader.specs.declared.LogReader.{LogReader}
-use Rattle.reader.proofs.Apart.{B, D, L, whole_val, log-val, Own, OwnLog, log-of}
+use Rattle.reader.proofs.Apart.{B, D, L, whole_val, log_val, Own, OwnLog, log_of}
 use Rattle.reader.proofs.LogReader.TheLaws as T'
 use Rattle.reader.specs.contracts.tables_at as callee
 use Rattle.reader.proofs.tables_at.Symbol as callee-def
@@ -55,8 +55,8 @@ use Rattle.reader.proofs.tables.Statement as stated
 use Rattle.reader.proofs.tables.Code as code
 
 -- the machine value of what is held
-abbrev heldVal : Tables → Val
-heldVal h = LL.tuple_val U.the_type U'.the_laws ((U.the_type).to h)
+abbrev held_val : Tables → Val
+held_val h = LL.tuple_val U.the_type U'.the_laws ((U.the_type).to h)
 
 abbrev stayed : Stays (tabled.ended).signature.params (tabled.ended).kept
 stayed = (stay_none B yes, (stay_none (λ _. U.the_row) yes, tt))
@@ -68,14 +68,14 @@ module _ {M : Type 1} {𝓤 : Ura M} (𝓛 : Logic 𝓤) (mem : Memory → SProp
 
 module _ {M : Type 1} {𝓤 : Ura M} (𝓛 : Logic 𝓤) (mem : Memory → SProp 𝓤)
     (run : Routine → Fun 𝓤) (κ : Lft) (q : Share) (d : LogReader) (h : Tables)
-    (g : Is U.the_row h (heldVal h ∷ [])) where
+    (g : Is U.the_row h (held_val h ∷ [])) where
   open 𝓛 use {H}
 
   abbrev hv : Val
-  hv = heldVal h
+  hv = held_val h
 
   abbrev found : Tables
-  found = tablesAfter h (textAt d.place (now d.log))
+  found = tables_after h (text_at d.place (d.log.now))
 
   abbrev at : Vals tabled.signature (κ, tt)
   at = (whole_val d ∷ [], (hv ∷ [], tt))
@@ -86,7 +86,7 @@ module _ {M : Type 1} {𝓤 : Ura M} (𝓛 : Logic 𝓤) (mem : Memory → SProp
 
   -- what the callee is passed
   abbrev passed : Vals callee.signature (κ, tt)
-  passed = (log-val d ∷ [], (vint w64 d.place ∷ [], (hv ∷ [], tt)))
+  passed = (log_val d ∷ [], (vint w64 d.place ∷ [], (hv ∷ [], tt)))
 
   abbrev to : (TablesAt 𝓛 mem run).Ghost
   to = (((κ, tt), (q, tt), tt, (d.log, (d.place, (h, tt))), passed), tt)
@@ -102,7 +102,7 @@ module _ {M : Type 1} {𝓤 : Ura M} (𝓛 : Logic 𝓤) (mem : Memory → SProp
       (sep 𝓤 ((TablesAt 𝓛 mem run).pre to) (sem 𝓛 (Own κ d)))
   apart fits =
       qed 𝓛 ((‵ (flft κ q) ⊛ ‵ ftrue) ∷ ‵ (owns (B (κ, tt) ∷ U.the_row ∷ []) (d, (h, tt)) at) ∷ []) ∵
-      move ! (1 ∷ []) $ fsplit ! $ move ! (1 ∷ []) $ drop ! $ use1 𝓛 (‵ (OwnLog κ d) ⊛ ‵ (Own κ d)) (log-of 𝓛 κ d)
+      move ! (1 ∷ []) $ fsplit ! $ move ! (1 ∷ []) $ drop ! $ use1 𝓛 (‵ (OwnLog κ d) ⊛ ‵ (Own κ d)) (log_of 𝓛 κ d)
       $ split ! $
       -- [what log owns; what the reader owns; the token]
       nothing ! $ owned ! U.the_row (Is U.the_row) (LL.makes U.the_type U'.the_plain 𝓛) h _ g $ fjoin !
@@ -165,30 +165,30 @@ module _ {M : Type 1} {𝓤 : Ura M} (𝓛 : Logic 𝓤) (mem : Memory → SProp
     (run : Routine → Fun 𝓤) where
   open 𝓛 use {H}
 
-  tables-walk : (C : Calls 𝓤 H) (Λ : Loops 𝓤 H) → FmC 𝓤 H 𝓛.laws C → Triple 𝓤 (C #reader·tables-at)
+  tables_walk : (C : Calls 𝓤 H) (Λ : Loops 𝓤 H) → FmC 𝓤 H 𝓛.laws C → Triple 𝓤 (C #reader·tables-at)
       (TablesAt 𝓛 mem run)
       → Walks 𝓛 tabled.ended stayed (WpFn 𝓤 H C Λ code.function) (tabled.clauses 𝓛 mem run)
-  tables-walk C Λ fm known = walked 𝓛 tabled.ended stayed (tabled.clauses 𝓛 mem run)
+  tables_walk C Λ fm known = walked 𝓛 tabled.ended stayed (tabled.clauses 𝓛 mem run)
       (WpFn 𝓤 H C Λ code.function) (λ κs. (LL.vals (D κs) (L κs), (LL.vals U.the_type U'.the_laws, tt)))
       (λ κs. (LL.tells (D κs) (L κs), (LL.tells U.the_type U'.the_laws, tt)))
       (λ κs qs bounds a g are. via 𝓤 _ (fst∗ 𝓤 _ (emp 𝓤))
       (walk 𝓛 mem run κs.0 qs.0 a.0 a.1.0 are.1.0 C Λ fm known
       ((LL.lawful (D κs) (L κs) 𝓛).typed a.0 _ are.0).0))
 
-tables-meet : {M : Type 1} {𝓤 : Ura M} (𝓛 : Logic 𝓤) (mem : Memory → SProp 𝓤)
+tables_meet : {M : Type 1} {𝓤 : Ura M} (𝓛 : Logic 𝓤) (mem : Memory → SProp 𝓤)
     (run : Routine → Fun 𝓤) (𝓣 : Known 𝓤 𝓛.H)
     → Triple 𝓤 (𝓣.C #reader·tables-at) (TablesAt 𝓛 mem run)
     → Meets 𝓛 tabled.signature (WpFn 𝓤 𝓛.H 𝓣.C 𝓣.Λ code.function) (tabled.spec 𝓛 mem run)
-tables-meet {𝓤 = 𝓤} 𝓛 mem run 𝓣 known-callee = walk_Meets 𝓛 tabled.ended stayed
+tables_meet {𝓤 = 𝓤} 𝓛 mem run 𝓣 known-callee = walk_Meets 𝓛 tabled.ended stayed
     (Goes-none 𝓛 1 B yes (λ κs x f. refl), (Goes-none 𝓛 1 (λ _. U.the_row) yes (λ κs x f. refl), tt))
     (tabled.clauses 𝓛 mem run) (WpFn 𝓤 𝓛.H 𝓣.C 𝓣.Λ code.function) (WpFn-mono 𝓤 𝓛.H 𝓛.laws 𝓣 code.function)
-    (tables-walk 𝓛 mem run 𝓣.C 𝓣.Λ (fm_of 𝓤 𝓛.H 𝓛.laws 𝓣) known-callee)
+    (tables_walk 𝓛 mem run 𝓣.C 𝓣.Λ (fm_of 𝓤 𝓛.H 𝓛.laws 𝓣) known-callee)
 
-pub tables-spec : {M : Type 1} → stated.statement M
+pub tables_spec : {M : Type 1} → stated.statement M
 unfolding code.routine tables_of
-tables-spec 𝓤 𝓛 𝓜 𝓡 =
+tables_spec 𝓤 𝓛 𝓜 𝓡 =
     entered 𝓤 𝓛.H (triple_of 𝓛 tabled.signature (tabled.spec 𝓛 𝓜.mem 𝓡.run))
     (tables 𝓤 𝓛.H 𝓜 𝓡 code.env).C (tables 𝓤 𝓛.H 𝓜 𝓡 code.env).Λ #reader·tables code.function (code.unfolded 𝓤 𝓛.H 𝓜 𝓡)
-    (tables-meet 𝓛 𝓜.mem 𝓡.run (tables_of 𝓤 𝓛.H 𝓜 (tables 𝓤 𝓛.H 𝓜 𝓡 code.env))
+    (tables_meet 𝓛 𝓜.mem 𝓡.run (tables_of 𝓤 𝓛.H 𝓜 (tables 𝓤 𝓛.H 𝓜 𝓡 code.env))
     (cited 𝓤 𝓛.H (TablesAt 𝓛 𝓜.mem 𝓡.run) 𝓜 𝓡 code.env #reader·tables-at callee-def.routine
     code.calls-reader::tables-at (callee-thm.met 𝓤 𝓛 𝓜 𝓡)))

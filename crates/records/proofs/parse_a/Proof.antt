@@ -1,14 +1,14 @@
-use Rattle.text.proofs.Prelude.{needs, refl, came, on, off}
-use Rattle.a_record.specs.ARecord.{aRes}
-use Rattle.records.specs.Record.{readKind}
+use Rattle.text.proofs.Prelude.{rules, refl, came, on, off}
+use Rattle.a_record.specs.ARecord.{a_res}
+use Rattle.records.specs.Record.{read_kind}
 use Rattle.records.proofs.parse_a.Statement.{statement}
 use Rattle.records.proofs.parse_a.Tie as tie
 
-pub parse-a-spec : {M : Type 1} → statement M
-unfolding readKind
-parse-a-spec =
+pub parse_a_spec : {M : Type 1} → statement M
+unfolding read_kind
+parse_a_spec =
     tie.close
     (tie.spec
-    (search needs) (search needs) (search needs)
-    (λ c. on _ (came aRes c.before.a.given.1 c.before.before.before.parse.ensures) refl)
-    (λ c. off _ (came aRes c.before.no-a.given.1 c.before.before.before.parse.ensures)))
+    (search rules) (search rules) (search rules)
+    (λ c. on _ (came a_res c.before.a.given.1 c.before.before.before.parse.ensures) refl)
+    (λ c. off _ (came a_res c.before.no-a.given.1 c.before.before.before.parse.ensures)))

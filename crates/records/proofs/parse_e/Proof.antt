@@ -1,14 +1,14 @@
-use Rattle.text.proofs.Prelude.{needs, refl, came, on, off}
-use Rattle.e_record.specs.ERecord.{eRes}
-use Rattle.records.specs.Record.{readKind}
+use Rattle.text.proofs.Prelude.{rules, refl, came, on, off}
+use Rattle.e_record.specs.ERecord.{e_res}
+use Rattle.records.specs.Record.{read_kind}
 use Rattle.records.proofs.parse_e.Statement.{statement}
 use Rattle.records.proofs.parse_e.Tie as tie
 
-pub parse-e-spec : {M : Type 1} → statement M
-unfolding readKind
-parse-e-spec =
+pub parse_e_spec : {M : Type 1} → statement M
+unfolding read_kind
+parse_e_spec =
     tie.close
     (tie.spec
-    (search needs) (search needs) (search needs)
-    (λ c. on _ (came eRes c.before.e.given.1 c.before.before.before.parse.ensures) refl)
-    (λ c. off _ (came eRes c.before.no-e.given.1 c.before.before.before.parse.ensures)))
+    (search rules) (search rules) (search rules)
+    (λ c. on _ (came e_res c.before.e.given.1 c.before.before.before.parse.ensures) refl)
+    (λ c. off _ (came e_res c.before.no-e.given.1 c.before.before.before.parse.ensures)))

@@ -1,14 +1,14 @@
-use Rattle.text.proofs.Prelude.{needs, refl, came, on, off}
-use Rattle.f_record.specs.FRecord.{fRes}
-use Rattle.records.specs.Record.{readKind}
+use Rattle.text.proofs.Prelude.{rules, refl, came, on, off}
+use Rattle.f_record.specs.FRecord.{f_res}
+use Rattle.records.specs.Record.{read_kind}
 use Rattle.records.proofs.parse_f.Statement.{statement}
 use Rattle.records.proofs.parse_f.Tie as tie
 
-pub parse-f-spec : {M : Type 1} → statement M
-unfolding readKind
-parse-f-spec =
+pub parse_f_spec : {M : Type 1} → statement M
+unfolding read_kind
+parse_f_spec =
     tie.close
     (tie.spec
-    (search needs) (search needs) (search needs)
-    (λ c. on _ (came fRes c.before.f.given.1 c.before.before.before.parse.ensures) refl)
-    (λ c. off _ (came fRes c.before.no-f.given.1 c.before.before.before.parse.ensures)))
+    (search rules) (search rules) (search rules)
+    (λ c. on _ (came f_res c.before.f.given.1 c.before.before.before.parse.ensures) refl)
+    (λ c. off _ (came f_res c.before.no-f.given.1 c.before.before.before.parse.ensures)))

@@ -1,14 +1,14 @@
-use Rattle.text.proofs.Prelude.{needs, refl, came, on, off}
-use Rattle.g_record.specs.GRecord.{gRes}
-use Rattle.records.specs.Record.{readKind}
+use Rattle.text.proofs.Prelude.{rules, refl, came, on, off}
+use Rattle.g_record.specs.GRecord.{g_res}
+use Rattle.records.specs.Record.{read_kind}
 use Rattle.records.proofs.parse_g.Statement.{statement}
 use Rattle.records.proofs.parse_g.Tie as tie
 
-pub parse-g-spec : {M : Type 1} → statement M
-unfolding readKind
-parse-g-spec =
+pub parse_g_spec : {M : Type 1} → statement M
+unfolding read_kind
+parse_g_spec =
     tie.close
     (tie.spec
-    (search needs) (search needs) (search needs)
-    (λ c. on _ (came gRes c.before.g.given.1 c.before.before.before.parse.ensures) refl)
-    (λ c. off _ (came gRes c.before.no-g.given.1 c.before.before.before.parse.ensures)))
+    (search rules) (search rules) (search rules)
+    (λ c. on _ (came g_res c.before.g.given.1 c.before.before.before.parse.ensures) refl)
+    (λ c. off _ (came g_res c.before.no-g.given.1 c.before.before.before.parse.ensures)))

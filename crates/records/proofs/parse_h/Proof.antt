@@ -1,14 +1,14 @@
-use Rattle.text.proofs.Prelude.{needs, refl, came, on, off}
-use Rattle.h_record.specs.HRecord.{hRes}
-use Rattle.records.specs.Record.{readKind}
+use Rattle.text.proofs.Prelude.{rules, refl, came, on, off}
+use Rattle.h_record.specs.HRecord.{h_res}
+use Rattle.records.specs.Record.{read_kind}
 use Rattle.records.proofs.parse_h.Statement.{statement}
 use Rattle.records.proofs.parse_h.Tie as tie
 
-pub parse-h-spec : {M : Type 1} → statement M
-unfolding readKind
-parse-h-spec =
+pub parse_h_spec : {M : Type 1} → statement M
+unfolding read_kind
+parse_h_spec =
     tie.close
     (tie.spec
-    (search needs) (search needs) (search needs)
-    (λ c. on _ (came hRes c.before.h.given.1 c.before.before.before.parse.ensures) refl)
-    (λ c. off _ (came hRes c.before.no-h.given.1 c.before.before.before.parse.ensures)))
+    (search rules) (search rules) (search rules)
+    (λ c. on _ (came h_res c.before.h.given.1 c.before.before.before.parse.ensures) refl)
+    (λ c. off _ (came h_res c.before.no-h.given.1 c.before.before.before.parse.ensures)))

@@ -1,12 +1,12 @@
-use Rattle.text.proofs.Prelude.{needs}
-use Rattle.records.proofs.Tables.{verdict-accepted, verdict-refused}
+use Rattle.text.proofs.Prelude.{rules}
+use Rattle.records.proofs.Tables.{verdict_accepted, verdict_refused}
 use Rattle.records.proofs.parse_table.Statement.{statement}
 use Rattle.records.proofs.parse_table.Tie as tie
 
-pub parse-table-spec : {M : Type 1} → statement M
-parse-table-spec =
+pub parse_table_spec : {M : Type 1} → statement M
+parse_table_spec =
     tie.close
     (tie.spec
-    (search needs) (search needs) (search needs)
-    (λ c. verdict-accepted _ _ c.before.before.parse.ensures c.enum_told.given.1)
-    (λ c. verdict-refused _ _ c.before.before.before.parse.ensures c.before.verdict.given.1))
+    (search rules) (search rules) (search rules)
+    (λ c. verdict_accepted _ _ c.before.before.parse.ensures c.enum_told.given.1)
+    (λ c. verdict_refused _ _ c.before.before.before.parse.ensures c.before.verdict.given.1))

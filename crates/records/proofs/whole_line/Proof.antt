@@ -3,6 +3,6 @@ use Rattle.records.specs.Record.{whole}
 use Rattle.records.proofs.whole_line.Statement.{statement}
 use Rattle.records.proofs.whole_line.Tie as tie
 
-pub whole-line-spec : {M : Type 1} → statement M
+pub whole_line_spec : {M : Type 1} → statement M
 unfolding whole
-whole-line-spec = tie.close (tie.spec (λ c. refl))
+whole_line_spec = tie.close (tie.spec (λ c. refl))

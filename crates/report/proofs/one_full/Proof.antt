@@ -1,53 +1,53 @@
 use Rattle.text.specs.Prelude.{◌-◌, ◌≤◌, ◌<◌, ◌≡◌, length, drop}
-use Rattle.text.proofs.Prelude.{needs, arith, refl, sym, ◌∙◌, drop_of_length-le}
-use Rattle.report.specs.Counts.{oneFull}
-use Rattle.report.proofs.Full.{full-here, full-later}
+use Rattle.text.proofs.Prelude.{rules, arith, refl, sym, ◌∙◌, drop_of_length-le}
+use Rattle.report.specs.Counts.{one_full_of}
+use Rattle.report.proofs.Full.{full_here, full_later}
 use Rattle.report.proofs.one_full.Statement.{statement}
 use Rattle.report.proofs.one_full.Tie as tie
 
 -- none of the first i counts is
 abbrev invariant-loop : tie.invariant-loop
-invariant-loop answers i₀ i = (i ≤ 13) × (oneFull (drop i answers) ≡ oneFull answers)
+invariant-loop answers i₀ i = (i ≤ 13) × (one_full_of (drop i answers) ≡ one_full_of answers)
 
 abbrev decreases-loop : tie.decreases-loop
 decreases-loop answers i₀ i = 13 - i
 
 wide : (c : tie.Start invariant-loop decreases-loop) → length c.args.t1 ≡ 13
-wide c = search needs
+wide c = search rules
 
 here : tie.Need-returns invariant-loop decreases-loop
 here c =
     let l = c.before.before in
     let ns = l.before.args.t1 in
     let inside : l.loop.i < length ns = omega (arith, wide l.before, c.before.loop-test.true) in
-    sym (full-here ns l.loop.i inside c.if1.true) ∙ l.loop.invariant.1
+    sym (full_here ns l.loop.i inside c.if1.true) ∙ l.loop.invariant.1
 
 again : tie.Need-loop-preserved invariant-loop decreases-loop
 again c =
     let l = c.before.before in
     let ns = l.before.args.t1 in
     let inside : l.loop.i < length ns = omega (arith, wide l.before, c.before.loop-test.true) in
-    (omega (arith, wide l.before), full-later ns l.loop.i inside c.if1.false ∙ l.loop.invariant.1)
+    (omega (arith, wide l.before), full_later ns l.loop.i inside c.if1.false ∙ l.loop.invariant.1)
 
 ends : tie.Need-returns-2 invariant-loop decreases-loop
-unfolding oneFull
+unfolding one_full_of
 ends c =
     let l = c.before in
     let ns = l.before.args.t1 in
     let all : length ns ≤ l.loop.i = omega (arith, wide l.before, c.loop-test.false) in
     rw (drop_of_length-le ns all) at l.loop.invariant.1
 
-pub one-full-spec : {M : Type 1} → statement M
-one-full-spec =
+pub one_full_spec : {M : Type 1} → statement M
+one_full_spec =
     tie.close
     (tie.spec
     invariant-loop
     decreases-loop
     (λ c. (omega arith, refl))
-    (search needs)
-    (search needs)
+    (search rules)
+    (search rules)
     here
-    (search needs)
-    (search needs)
+    (search rules)
+    (search rules)
     again
     ends)

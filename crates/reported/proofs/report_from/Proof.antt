@@ -1,40 +1,40 @@
-use Rattle.text.specs.Prelude.{◌-◌, ◌<◌, ◌≡◌, length, now}
-use Rattle.text.proofs.Prelude.{needs, arith, refl, sym, ap, ◌∙◌}
+use Rattle.text.specs.Prelude.{◌-◌, ◌<◌, ◌≡◌, length}
+use Rattle.text.proofs.Prelude.{rules, arith, refl, sym, ap, ◌∙◌}
 use lib.ListN.{length-set}
 use Rattle.report.specs.Counts.{numbers}
-use Rattle.reported.specs.Reported.{figuresOn}
-use Rattle.reported.specs.Flat.{flatIn, oneMore}
+use Rattle.reported.specs.Reported.{figures_on}
+use Rattle.reported.specs.Flat.{flat_in, one_more}
 use Rattle.reported.proofs.Glances.{room_says, taken, kept, number_small}
-use Rattle.reported.proofs.Pieces.{Taken, at-start, at-end, line, near}
+use Rattle.reported.proofs.Pieces.{Taken, at_start, at_end, line, near}
 use Rattle.reported.proofs.report_from.Statement.{statement}
 use Rattle.reported.proofs.report_from.Tie as tie
 
 abbrev invariant-loop : tie.invariant-loop
 invariant-loop place piece answers₀ figures₀ at₀ answers figures at =
-    (length answers ≡ numbers) × Taken (flatIn answers₀ figures₀) place piece at (flatIn answers figures)
+    (length answers ≡ numbers) × Taken (flat_in answers₀ figures₀) place piece at (flat_in answers figures)
 
 abbrev decreases-loop : tie.decreases-loop
 decreases-loop place piece answers₀ figures₀ at₀ answers figures at = length piece - at
 
 wide : (c : tie.Start invariant-loop decreases-loop) → length c.args.before.answers ≡ numbers
-wide c = search needs
+wide c = search rules
 
 number : (c : tie.After-look invariant-loop decreases-loop) → c.look.result.number < numbers
 number c = number_small _ c.look.ensures
 
-add-answers : tie.Need-overflow-add-answers invariant-loop decreases-loop
-add-answers c =
+add_answers : tie.Need-overflow-add-answers invariant-loop decreases-loop
+add_answers c =
     let room = room_says _ _ _ _ (sym c.before.has_room.ensures ∙ c.if1.true) in
     record { fits = omega (arith, room.1) }
 
-add-after : tie.Need-overflow-add-after invariant-loop decreases-loop
-add-after c =
+add_after : tie.Need-overflow-add-after invariant-loop decreases-loop
+add_after c =
     let test = c.before.before.before.before.before.before.before in
     let start = test.before.before.before.before.before in
     record { fits = omega (arith, test.loop-test.true, start.requires) }
 
-after-requires : tie.Need-after-requires invariant-loop decreases-loop
-after-requires c κs =
+after_requires : tie.Need-after-requires invariant-loop decreases-loop
+after_requires c κs =
     let room = room_says _ _ _ _ (sym c.before.has_room.ensures ∙ c.if1.true) in
     (omega (arith, room.0), room.2)
 
@@ -45,7 +45,7 @@ loop-less c =
     near cut.before.before.loop.invariant.1 cut.before.loop-test.true cut.cut_at.ensures
 
 loop-again : tie.Need-loop-preserved invariant-loop decreases-loop
-unfolding oneMore
+unfolding one_more
 loop-again c =
     let room = c.before.before in
     let look = room.before.before in
@@ -80,29 +80,29 @@ returns : tie.Need-returns invariant-loop decreases-loop
 returns c =
     let loop = c.before.before in
     let start = loop.before.before.before.before in
-    c.report.ensures ∙ at-end loop.loop.invariant.1 c.before.loop-test.false
-    ∙ ap (λ f. figuresOn f start.args.place (now start.args.piece)) loop.before.of.ensures
+    c.report.ensures ∙ at_end loop.loop.invariant.1 c.before.loop-test.false
+    ∙ ap (λ f. figures_on f start.args.place (start.args.piece.now)) loop.before.of.ensures
 
-pub report-from-spec : {M : Type 1} → statement M
-report-from-spec =
+pub report_from_spec : {M : Type 1} → statement M
+report_from_spec =
     tie.close
     (tie.spec
     invariant-loop
     decreases-loop
-    (search needs)
-    (λ c. (wide c.before.before.before, at-start))
-    (search needs) (search needs) (search needs) (search needs)
+    (search rules)
+    (λ c. (wide c.before.before.before, at_start))
+    (search rules) (search rules) (search rules) (search rules)
     (λ c. record { fits = omega (arith, number c.before) })
     (λ c. number c.before)
-    (search needs)
-    add-answers
+    (search rules)
+    add_answers
     (λ c. record { fits = omega (arith, number c.before.before.before) })
     (λ c. number c.before.before.before)
-    add-after
-    after-requires
+    add_after
+    after_requires
     loop-less
     loop-again
     loop-less-2
     loop-again-2
-    (search needs)
+    (search rules)
     returns)

@@ -1,8 +1,8 @@
-use Rattle.text.specs.Prelude.{ℕ, ◌-◌, ◌≡◌, List, length, now, largest}
-use Rattle.text.proofs.Prelude.{needs, refl, ◌∙◌}
-use Rattle.files.proofs.Filling.{ended-inside}
-use Rattle.sheet_file.specs.File.{turnIn}
-use Rattle.sheet_file.proofs.Going.{Gone, Goes, at-start, goes-turned, goes-more}
+use Rattle.text.specs.Prelude.{ℕ, ◌-◌, ◌≡◌, List, length, largest}
+use Rattle.text.proofs.Prelude.{rules, refl, ◌∙◌}
+use Rattle.files.proofs.Filling.{ended_inside}
+use Rattle.sheet_file.specs.File.{turn_in}
+use Rattle.sheet_file.proofs.Going.{Gone, Goes, at_start, goes_turned, goes_more}
 use Rattle.sheet_file.proofs.read_file.Statement.{statement}
 use Rattle.sheet_file.proofs.read_file.Tie as tie
 
@@ -13,39 +13,39 @@ abbrev decreases-loop : tie.decreases-loop
 decreases-loop fd win₀ before₀ fill₀ turns₀ win before fill turns = largest - turns
 
 -- one turn more
-turned : (c : tie.After-one-turn invariant-loop decreases-loop) → Goes (turnIn c.one-turn.result)
+turned : (c : tie.After-one-turn invariant-loop decreases-loop) → Goes (turn_in c.one-turn.result)
 turned c =
     let read = c.before.before.before.before in
     let loop = read.before.before.before.loop in
-    rw c.one-turn.ensures.0 (goes-turned loop.invariant.0 read.read-on.result read.read-on.new.1.0)
+    rw c.one-turn.ensures.0 (goes_turned loop.invariant.0 read.read-on.result read.read-on.new.1.0)
 
 -- the window stays as long as it was
 abbrev window : tie.Start invariant-loop decreases-loop → List ℕ
-window b = now b.args.win
+window b = b.args.win.now
 
-same-window : (c : tie.After-one-turn invariant-loop decreases-loop) →
-    length c.one-turn.new.1.1.0 ≡ length (window (search needs))
-same-window c =
+same_window : (c : tie.After-one-turn invariant-loop decreases-loop) →
+    length c.one-turn.new.1.1.0 ≡ length (window (search rules))
+same_window c =
     let read = c.before.before.before.before in
     c.one-turn.auto.1.1.0 ∙ read.read-on.auto.1.0 ∙ read.before.before.before.loop.invariant.1
 
 more : tie.Need-loop-preserved invariant-loop decreases-loop
 more c =
-    let turn : tie.After-one-turn invariant-loop decreases-loop = search needs in
-    ((turned turn).gone (goes-more c.if1.false), same-window turn)
+    let turn : tie.After-one-turn invariant-loop decreases-loop = search rules in
+    ((turned turn).gone (goes_more c.if1.false), same_window turn)
 
-pub read-file-spec : {M : Type 1} → statement M
-read-file-spec =
+pub read_file_spec : {M : Type 1} → statement M
+read_file_spec =
     tie.close
     (tie.spec
     invariant-loop
     decreases-loop
-    (λ c. (at-start, refl))
-    (search needs) (search needs)
-    (λ c κs. let read = c.before.before.before in ended-inside read.read-on.result read.read-on.ensures)
-    (λ c. let turn : tie.After-one-turn invariant-loop decreases-loop = search needs in same-window turn)
-    (λ c. let turn : tie.After-one-turn invariant-loop decreases-loop = search needs in (turned turn).told)
-    (search needs)
+    (λ c. (at_start, refl))
+    (search rules) (search rules)
+    (λ c κs. let read = c.before.before.before in ended_inside read.read-on.result read.read-on.ensures)
+    (λ c. let turn : tie.After-one-turn invariant-loop decreases-loop = search rules in same_window turn)
+    (λ c. let turn : tie.After-one-turn invariant-loop decreases-loop = search rules in (turned turn).told)
+    (search rules)
     more
-    (search needs) (search needs)
+    (search rules) (search rules)
     (λ c. c.new.ensures))

@@ -3,6 +3,6 @@ use Rattle.sheet_file.specs.File.{stopped}
 use Rattle.sheet_file.proofs.stop.Statement.{statement}
 use Rattle.sheet_file.proofs.stop.Tie as tie
 
-pub stop-spec : {M : Type 1} → statement M
+pub stop_spec : {M : Type 1} → statement M
 unfolding stopped
-stop-spec = tie.close (tie.spec (λ c. refl))
+stop_spec = tie.close (tie.spec (λ c. refl))

@@ -1,51 +1,51 @@
 use Rattle.text.specs.Prelude.{◌-◌, ◌≤◌, ◌≡◌, true, length, drop, ◌=?◌}
-use Rattle.text.proofs.Prelude.{needs, refl, sym, ◌∙◌, fails, holds}
+use Rattle.text.proofs.Prelude.{rules, refl, sym, ◌∙◌, fails, holds}
 use mathlib.Core.Logic.{⊎_elim}
-use Rattle.text.specs.Spelt.{speltFrom, spelt}
-use Rattle.sheet_read.specs.Sheet.{fromAll}
-use Rattle.sheet_read.proofs.Lines.{rest_of, all_here, not-here, none_here}
+use Rattle.text.specs.Spelt.{spelt_from, spelt}
+use Rattle.sheet_read.specs.Sheet.{from_all_of}
+use Rattle.sheet_read.proofs.Lines.{rest_of, all_here, not_here, none_here}
 use Rattle.sheet_read.proofs.find_all.Statement.{statement}
 use Rattle.sheet_read.proofs.find_all.Tie as tie
 
 -- from here on it is the same line
 abbrev invariant-loop : tie.invariant-loop
-invariant-loop text start₀ i₀ t4 start i = (i ≤ length text) × (fromAll start (drop i text) ≡ fromAll true text)
+invariant-loop text start₀ i₀ t4 start i = (i ≤ length text) × (from_all_of start (drop i text) ≡ from_all_of true text)
 
 abbrev decreases-loop : tie.decreases-loop
 decreases-loop text start₀ i₀ t4 start i = length text - i
 
 found : tie.Need-returns invariant-loop decreases-loop
-unfolding spelt speltFrom
+unfolding spelt spelt_from
 found c =
-    let l : tie.At-loop invariant-loop decreases-loop = search needs in
-    let t : tie.Then1 invariant-loop decreases-loop = search needs in (
-      all_here _ l.loop.i l.loop.start (search needs) l.loop.inv.1 t.if1.taken
+    let l : tie.At-loop invariant-loop decreases-loop = search rules in
+    let t : tie.Then1 invariant-loop decreases-loop = search rules in (
+      all_here _ l.loop.i l.loop.start (search rules) l.loop.inv.1 t.if1.taken
           (sym (rw (rest_of _ l.loop.i) at c.before.starts-with.ensures) ∙ c.if2.true),
-      search needs,
+      search rules,
     )
 
 again : tie.Need-loop-preserved invariant-loop decreases-loop
-unfolding spelt speltFrom ◌=?◌
+unfolding spelt spelt_from ◌=?◌
 again c =
-    let l : tie.At-loop invariant-loop decreases-loop = search needs in (
-      search needs,
-      not-here _ l.loop.i l.loop.start (search needs) l.loop.inv.1 (⊎_elim
+    let l : tie.At-loop invariant-loop decreases-loop = search rules in (
+      search rules,
+      not_here _ l.loop.i l.loop.start (search rules) l.loop.inv.1 (⊎_elim
           (λ w. holds w.0.taken (sym (rw (rest_of _ l.loop.i) at w.3.ensures) ∙ w.4.left))
           (λ w. fails _ w.left) c.before.if1.branch),
     )
 
 ends : tie.Need-returns-2 invariant-loop decreases-loop
-ends c = let l = c.before.loop in (none_here _ l.i l.start (search needs) l.invariant.1, search needs)
+ends c = let l = c.before.loop in (none_here _ l.i l.start (search rules) l.invariant.1, search rules)
 
-pub find-all-spec : {M : Type 1} → statement M
-find-all-spec =
+pub find_all_spec : {M : Type 1} → statement M
+find_all_spec =
     tie.close
     (tie.spec
     invariant-loop
     decreases-loop
-    (λ c. (search needs, refl))
-    (search needs) (search needs) (search needs) (search needs) (search needs)
+    (λ c. (search rules, refl))
+    (search rules) (search rules) (search rules) (search rules) (search rules)
     found
-    (search needs) (search needs) (search needs)
+    (search rules) (search rules) (search rules)
     again
     ends)

@@ -1,14 +1,14 @@
-use Rattle.text.proofs.Prelude.{needs}
+use Rattle.text.proofs.Prelude.{rules}
 use Rattle.put.proofs.Writing.{then}
-use Rattle.text.specs.Spelt.{speltFrom, spelt}
-use Rattle.sheet_text.specs.Sheet.{allText}
+use Rattle.text.specs.Spelt.{spelt_from, spelt}
+use Rattle.sheet_text.specs.Sheet.{all_text}
 use Rattle.sheet_text.proofs.put_all.Statement.{statement}
 use Rattle.sheet_text.proofs.put_all.Tie as tie
 
-pub put-all-spec : {M : Type 1} → statement M
-unfolding allText spelt speltFrom
-put-all-spec =
+pub put_all_spec : {M : Type 1} → statement M
+unfolding all_text spelt spelt_from
+put_all_spec =
     tie.close
     (tie.spec
-    (search needs) (search needs) (search needs) (search needs)
+    (search rules) (search rules) (search rules) (search rules)
     (λ c. search (then)))

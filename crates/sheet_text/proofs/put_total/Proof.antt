@@ -1,14 +1,14 @@
-use Rattle.text.proofs.Prelude.{needs}
+use Rattle.text.proofs.Prelude.{rules}
 use Rattle.put.proofs.Writing.{then}
-use Rattle.text.specs.Spelt.{speltFrom, spelt}
-use Rattle.sheet_text.specs.Sheet.{figureLines}
+use Rattle.text.specs.Spelt.{spelt_from, spelt}
+use Rattle.sheet_text.specs.Sheet.{figure_lines}
 use Rattle.sheet_text.proofs.put_total.Statement.{statement}
 use Rattle.sheet_text.proofs.put_total.Tie as tie
 
-pub put-total-spec : {M : Type 1} → statement M
-unfolding figureLines spelt speltFrom
-put-total-spec =
+pub put_total_spec : {M : Type 1} → statement M
+unfolding figure_lines spelt spelt_from
+put_total_spec =
     tie.close
     (tie.spec
-    (search needs) (search needs) (search needs) (search needs) (search needs)
+    (search rules) (search rules) (search rules) (search rules) (search rules)
     (λ c. search (then)))

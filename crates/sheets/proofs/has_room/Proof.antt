@@ -1,17 +1,17 @@
 use Rattle.text.specs.Prelude.{ℕ, ◌+◌, ◌-◌, ◌≤◌, ◌≡◌, ◌≤?◌, largest}
-use Rattle.text.proofs.Prelude.{needs, arith, sym, ◌∙◌, yes≤, no≤, is≤, isnt≤, by-test, tested}
+use Rattle.text.proofs.Prelude.{rules, arith, sym, ◌∙◌, yes≤, no≤, is≤, isnt≤, by_test, tested}
 use lib.Dec.{leb}
-use Rattle.sheets.specs.Sheets.{hasRoom}
+use Rattle.sheets.specs.Sheets.{has_room_of}
 use Rattle.sheets.proofs.has_room.Statement.{statement}
 use Rattle.sheets.proofs.has_room.Tie as tie
 
 -- what is left up to the largest is room
-room-left : (place n : ℕ) → place ≤ largest → leb n (largest - place) ≡ (place + n ≤? largest)
-room-left place n h =
-    sym (tested n (largest - place)) ∙ by-test (n ≤? (largest - place))
+room_left : (place n : ℕ) → place ≤ largest → leb n (largest - place) ≡ (place + n ≤? largest)
+room_left place n h =
+    sym (tested n (largest - place)) ∙ by_test (n ≤? (largest - place))
     (λ e. e ∙ sym (yes≤ (omega (arith, is≤ e))))
     (λ e. e ∙ sym (no≤ (omega (arith, isnt≤ e))))
 
-pub has-room-spec : {M : Type 1} → statement M
-unfolding hasRoom
-has-room-spec = tie.close (tie.spec (search needs) (λ c. room-left _ _ (omega arith)))
+pub has_room_spec : {M : Type 1} → statement M
+unfolding has_room_of
+has_room_spec = tie.close (tie.spec (search rules) (λ c. room_left _ _ (omega arith)))

@@ -1,21 +1,21 @@
-use Rattle.text.specs.Prelude.{now}
-use Rattle.text.proofs.Prelude.{needs, refl, sym, ◌∙◌, never}
-use Rattle.window.specs.Piece.{pieceEnd}
+
+use Rattle.text.proofs.Prelude.{rules, refl, sym, ◌∙◌, never}
+use Rattle.window.specs.Piece.{piece_end_of}
 use Rattle.window.proofs.Wholes.{whole_le}
-use Rattle.stream.proofs.Streaming.{goes-nowhere, goes_last, drained}
+use Rattle.stream.proofs.Streaming.{goes_nowhere, goes_last, drained}
 use Rattle.stream.proofs.drain.Statement.{statement}
 use Rattle.stream.proofs.drain.Tie as tie
 
-long-line : tie.Need-returns
-long-line c = rw c.stop.ensures (goes-nowhere, λ h. never h refl)
+long_line : tie.Need-returns
+long_line c = rw c.stop.ensures (goes_nowhere, λ h. never h refl)
 
 inside : tie.Need-slice-bounds-write-lines-end
-unfolding pieceEnd
+unfolding piece_end_of
 inside c =
     let end = c.before.before in
-    let h = whole_le (now end.before.before.before.before.before.args.win) in
+    let h = whole_le (end.before.before.before.before.before.args.win.now) in
     let e = end.piece-end.ensures in
-    search needs
+    search rules
 
 not_written : tie.Need-returns-2
 not_written c =
@@ -32,15 +32,15 @@ kept c =
     let well = sym asked.has-failed.ensures ∙ test.if2.false in
     drained end write.write-lines.ensures well keep.keep-rest.ensures.0 keep.keep-rest.ensures.1
 
-pub drain-spec : {M : Type 1} → statement M
-drain-spec =
+pub drain_spec : {M : Type 1} → statement M
+drain_spec =
     tie.close
     (tie.spec
-    (search needs) (search needs) (search needs)
-    long-line
-    (search needs) (search needs)
+    (search rules) (search rules) (search rules)
+    long_line
+    (search rules) (search rules)
     inside
-    (search needs) (search needs) (search needs) (search needs) (search needs)
+    (search rules) (search rules) (search rules) (search rules) (search rules)
     not_written
-    (search needs) (search needs) (search needs)
+    (search rules) (search rules) (search rules)
     kept)

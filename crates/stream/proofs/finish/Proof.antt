@@ -1,4 +1,4 @@
-use Rattle.text.proofs.Prelude.{needs, sym, ◌∙◌}
+use Rattle.text.proofs.Prelude.{rules, sym, ◌∙◌}
 use Rattle.stream.proofs.Streaming.{finished}
 use Rattle.stream.proofs.finish.Statement.{statement}
 use Rattle.stream.proofs.finish.Tie as tie
@@ -21,7 +21,7 @@ pub finish_spec : {M : Type 1} → statement M
 finish_spec =
     tie.close
     (tie.spec
-    (search needs) (search needs) (search needs) (search needs)
+    (search rules) (search rules) (search rules) (search rules)
     cut_short
-    (search needs) (search needs) (search needs)
+    (search rules) (search rules) (search rules)
     closed)

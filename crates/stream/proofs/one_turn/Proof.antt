@@ -1,5 +1,5 @@
 use Rattle.text.specs.Prelude.{ℕ, ◌-◌, ◌≡◌}
-use Rattle.text.proofs.Prelude.{needs, arith}
+use Rattle.text.proofs.Prelude.{rules, arith}
 use Rattle.stream.proofs.one_turn.Statement.{statement}
 use Rattle.stream.proofs.one_turn.Tie as tie
 
@@ -8,7 +8,7 @@ inside : tie.Need-slice-bounds-finish-end
 inside c =
     let told = c.before.before in
     let h = rw told.filled.given.1 at told.before.before.before.before.before.requires in
-    search needs
+    search rules
 
 -- a part from the start on
 from_start : (n : ℕ) → n - 0 ≡ n
@@ -28,14 +28,14 @@ full c =
 failed : tie.Need-returns-3
 failed c = rw c.before.enum-told2.given.1 c.stop.ensures
 
-pub one-turn-spec : {M : Type 1} → statement M
-one-turn-spec =
+pub one_turn_spec : {M : Type 1} → statement M
+one_turn_spec =
     tie.close
     (tie.spec
-    (search needs) (search needs) (search needs)
+    (search rules) (search rules) (search rules)
     inside
-    (search needs) (search needs) (search needs) (search needs) (search needs) (search needs) (search needs)
+    (search rules) (search rules) (search rules) (search rules) (search rules) (search rules) (search rules)
     ended
-    (search needs) (search needs)
+    (search rules) (search rules)
     full
     failed)

@@ -1,8 +1,8 @@
-use Rattle.text.specs.Prelude.{◌+◌, ◌-◌, ◌≤◌, ◌≡◌, length, now, largest}
-use Rattle.text.proofs.Prelude.{needs, arith, refl, sym, ◌∙◌}
-use Rattle.log.proofs.Reached.{at-start}
-use Rattle.files.specs.Outcome.{hasFailed}
-use Rattle.stream.proofs.Streaming.{Streaming, went_on, stopped, put-more}
+use Rattle.text.specs.Prelude.{◌+◌, ◌-◌, ◌≤◌, ◌≡◌, length, largest}
+use Rattle.text.proofs.Prelude.{rules, arith, refl, sym, ◌∙◌}
+use Rattle.igc_log.proofs.Reached.{at_start}
+use Rattle.files.specs.Outcome.{has_failed_of}
+use Rattle.stream.proofs.Streaming.{Streaming, went_on, stopped, put_more}
 use Rattle.stream.proofs.write_lines.Statement.{statement}
 use Rattle.stream.proofs.write_lines.Tie as tie
 
@@ -18,21 +18,21 @@ more : (c : tie.After-put-lines invariant-loop decreases-loop) →
     let test = c.before.before.before in
     let args = test.before.before.before.before.before.args in
     let r = c.put-lines.result in
-    Streaming args.c (now args.lines) (test.before.loop.from + r.taken) r.carried
+    Streaming args.c (args.lines.now) (test.before.loop.from + r.taken) r.carried
     × (r.end ≤ length test.before.loop.out)
 more c =
     let test = c.before.before.before in
     let loop = test.before.loop in
     let args = test.before.before.before.before.before.args in
-    put-more loop.invariant.0 args.product (now args.names) _ _ c.put-lines.result test.loop-test.true
+    put_more loop.invariant.0 args.product (args.names.now) _ _ c.put-lines.result test.loop-test.true
     c.put-lines.ensures
 
 no_room : tie.Need-returns invariant-loop decreases-loop
-unfolding hasFailed
+unfolding has_failed_of
 no_room c = stopped c.before.before.before.before.before.before.before.loop.invariant.0 refl
 
 fits : tie.Need-slice-bounds-write-text-end invariant-loop decreases-loop
-fits c = let h = (more c.before.before.before).1 in search needs
+fits c = let h = (more c.before.before.before).1 in search rules
 
 not_written : tie.Need-returns-2 invariant-loop decreases-loop
 not_written c =
@@ -44,29 +44,29 @@ not_written c =
 abbrev written : (c : tie.After-carried invariant-loop decreases-loop) → tie.After-put-lines invariant-loop decreases-loop
 written c = c.before.before.before.before.before.before.before.before.before.before
 
-less-left : tie.Need-loop-smaller invariant-loop decreases-loop
-less-left c =
+less_left : tie.Need-loop-smaller invariant-loop decreases-loop
+less_left c =
     let some = c.before.before.before.before.before.before.before.if1.false in
     omega (arith, (more (written c)).0.inside, some)
 
 again : tie.Need-loop-preserved invariant-loop decreases-loop
-again c = ((more (written c)).0, search needs, (written c).before.before.before.before.loop.invariant.2)
+again c = ((more (written c)).0, search rules, (written c).before.before.before.before.loop.invariant.2)
 
-pub write-lines-spec : {M : Type 1} → statement M
-write-lines-spec =
+pub write_lines_spec : {M : Type 1} → statement M
+write_lines_spec =
     tie.close
     (tie.spec
     invariant-loop
     decreases-loop
-    (λ c. (at-start, refl, omega arith))
-    (search needs) (search needs) (search needs) (search needs) (search needs)
+    (λ c. (at_start, refl, omega arith))
+    (search rules) (search rules) (search rules) (search rules) (search rules)
     no_room
-    (search needs) (search needs)
+    (search rules) (search rules)
     fits
-    (search needs) (search needs) (search needs)
+    (search rules) (search rules) (search rules)
     not_written
     (λ c. omega (arith, (more (written c)).0.inside, (written c).before.before.before.before.loop.invariant.2))
-    less-left
+    less_left
     again
-    (search needs)
+    (search rules)
     (λ c. went_on c.before.loop.invariant.0 c.loop-test.false))

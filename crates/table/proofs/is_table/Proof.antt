@@ -1,13 +1,13 @@
 use Rattle.text.specs.Prelude.{code, ◌=?◌, ◌∨?◌}
-use Rattle.text.proofs.Prelude.{needs, refl, first, second, yes=, no=}
-use Rattle.table.specs.Table.{isTable}
+use Rattle.text.proofs.Prelude.{rules, refl, first, second, yes=, no=}
+use Rattle.table.specs.Table.{is_table_of}
 use Rattle.table.proofs.is_table.Statement.{statement}
 use Rattle.table.proofs.is_table.Tie as tie
 
-not-I : tie.Need-returns-2
-unfolding isTable ◌∨?◌ ◌=?◌
-not-I c = second _ (no= {b = code "I"} c.if1.false) refl
+not_i : tie.Need-returns-2
+unfolding is_table_of ◌∨?◌ ◌=?◌
+not_i c = second _ (no= {b = code "I"} c.if1.false) refl
 
-pub is-table-spec : {M : Type 1} → statement M
-unfolding isTable ◌∨?◌
-is-table-spec = tie.close (tie.spec (λ c. first _ (yes= (search needs)) refl) not-I)
+pub is_table_spec : {M : Type 1} → statement M
+unfolding is_table_of ◌∨?◌
+is_table_spec = tie.close (tie.spec (λ c. first _ (yes= (search rules)) refl) not_i)

@@ -1,10 +1,10 @@
-use Rattle.text.specs.Prelude.{◌≡◌, drop, now, pick}
+use Rattle.text.specs.Prelude.{◌≡◌, drop, pick}
 use borrow.Author.Rules.{rules}
 use mathlib.Core.Path.{sym, ◌∙◌}
 use borrow.Author.Tests.{not-true, not-false}
-use Rattle.task_line.specs.Lines.{taskLines}
-use Rattle.task.specs.Sheet.{sheet, refused, sheetFrom}
-use Rattle.task_text.specs.Points.{pointsText}
+use Rattle.task_line.specs.Lines.{task_lines}
+use Rattle.task.specs.Sheet.{sheet, refused, sheet_from}
+use Rattle.task_text.specs.Points.{points_text}
 use Rattle.task.specs.declared.TaskRefusal.{TaskRefusal}
 use Rattle.task.proofs.Printing.{none, no_room, written}
 use Rattle.task.proofs.print_points.Statement.{statement}
@@ -13,16 +13,16 @@ use Rattle.task.proofs.print_points.Tie as tie
 interrupted : (c : tie.Then1) →
     let args = c.before.before.before.before.before.args in
     refused TaskRefusal.Interrupted
-    ≡ sheetFrom (now args.labels) args.points (taskLines (drop args.from (now args.log)))
-unfolding sheetFrom pick
+    ≡ sheet_from (args.labels.now) args.points (task_lines (drop args.from (args.log.now)))
+unfolding sheet_from pick
 interrupted c = rw (sym c.before.are-points.ensures ∙ not-true _ c.if1.true)
 
 points : (c : tie.Else1) →
     let args = c.before.before.before.before.before.args in
-    let lines = taskLines (drop args.from (now args.log)) in
-    sheet (pointsText (now args.labels) 1 args.points lines)
-    ≡ sheetFrom (now args.labels) args.points lines
-unfolding sheetFrom pick
+    let lines = task_lines (drop args.from (args.log.now)) in
+    sheet (points_text (args.labels.now) 1 args.points lines)
+    ≡ sheet_from (args.labels.now) args.points lines
+unfolding sheet_from pick
 points c = rw (sym c.before.are-points.ensures ∙ not-false _ c.if1.false)
 
 full : tie.Need-returns-2
@@ -37,8 +37,8 @@ printed c =
     let made : tie.After-put-points2 = search rules in
     written (points (search rules)) tried.put-points.ensures room.if2.left made.put-points2.ensures
 
-pub print-points-spec : {M : Type 1} → statement M
-print-points-spec =
+pub print_points_spec : {M : Type 1} → statement M
+print_points_spec =
     tie.close
     (tie.spec
     (search rules)

@@ -1,13 +1,13 @@
 use borrow.Author.Rules.{rules}
 use mathlib.Core.Path.{ap}
-use Rattle.task_line.specs.Lines.{recordKind}
+use Rattle.task_line.specs.Lines.{record_kind}
 use Rattle.task_line.specs.declared.Kind.{Kind}
 use Rattle.task_line.proofs.kind_of_record.Statement.{statement}
 use Rattle.task_line.proofs.kind_of_record.Tie as tie
 
-pub kind-of-record-spec : {M : Type 1} → statement M
-unfolding recordKind
-kind-of-record-spec =
+pub kind_of_record_spec : {M : Type 1} → statement M
+unfolding record_kind
+kind_of_record_spec =
     tie.close
     (tie.spec
     (search rules) (search rules) (search rules) (search rules) (search rules) (search rules) (search rules)

@@ -11,5 +11,5 @@ returns c =
     sees _ _ parsed.parse-line.result cut.cut-ahead.ensures view.view.ensures.bytes
     parsed.parse-line.ensures c.kind-of.ensures
 
-pub line-at-spec : {M : Type 1} → statement M
-line-at-spec = tie.close (tie.spec (search rules) (search rules) (search rules) (search rules) returns)
+pub line_at_spec : {M : Type 1} → statement M
+line_at_spec = tie.close (tie.spec (search rules) (search rules) (search rules) (search rules) returns)

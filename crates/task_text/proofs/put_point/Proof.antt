@@ -1,18 +1,18 @@
 use borrow.Author.Rules.{rules}
 use native.Mathlib.Omega.{arith}
 use Rattle.put.proofs.Writing.{then, wrote_nothing}
-use Rattle.caption.specs.Caption.{captionText}
+use Rattle.caption.specs.Caption.{caption_text}
 use Rattle.task_line.specs.Lines.{line_of}
-use Rattle.task_text.specs.Points.{pointText}
-use Rattle.task_text.proofs.Putting.{no-point-text}
+use Rattle.task_text.specs.Points.{point_text}
+use Rattle.task_text.proofs.Putting.{no_point_text}
 use Rattle.task_text.proofs.put_point.Statement.{statement}
 use Rattle.task_text.proofs.put_point.Tie as tie
 
 none : tie.Need-returns
-none c = rw (no-point-text _ _ _ _ c.match.keys2) (wrote_nothing _ _ (omega arith) (omega arith))
+none c = rw (no_point_text _ _ _ _ c.match.keys2) (wrote_nothing _ _ (omega arith) (omega arith))
 
 point : tie.Need-returns-2
-unfolding pointText line_of captionText
+unfolding point_text line_of caption_text
 point c =
     let kind : tie.After-kind = search rules in
     let lf = c.before.before in
@@ -24,8 +24,8 @@ point c =
     (then (rw shown.caption.ensures.bytes at bytes.put-bytes.ensures)
     (then space.put_byte.ensures (then position.put.ensures lf.put-byte2.ensures)))
 
-pub put-point-spec : {M : Type 1} → statement M
-put-point-spec =
+pub put_point_spec : {M : Type 1} → statement M
+put_point_spec =
     tie.close
     (tie.spec
     (search rules)

@@ -1,8 +1,8 @@
 use Rattle.text.specs.Prelude.{◌-◌}
 use borrow.Author.Rules.{rules}
 use native.Mathlib.Omega.{arith}
-use Rattle.put.proofs.Writing.{wrote-length}
-use Rattle.task_text.proofs.Putting.{all-texts, no_text, Putting, at-start, next-put, all-put}
+use Rattle.put.proofs.Writing.{wrote_length}
+use Rattle.task_text.proofs.Putting.{all_texts, no_text, Putting, at_start, next_put, all_put}
 use Rattle.task_text.proofs.put_points.Statement.{statement}
 use Rattle.task_text.proofs.put_points.Tie as tie
 
@@ -14,7 +14,7 @@ abbrev decreases-loop : tie.decreases-loop
 decreases-loop buf₀ at log labels from points end₀ place₀ i₀ buf end place i = points - i
 
 few : tie.Need-returns invariant-loop decreases-loop
-few c = let l = c.before.before.loop in all-put l.invariant (no_text _ l.place _ _ _ c.if1.true)
+few c = let l = c.before.before.loop in all_put l.invariant (no_text _ l.place _ _ _ c.if1.true)
 
 again : tie.Need-loop-preserved invariant-loop decreases-loop
 again c =
@@ -23,22 +23,22 @@ again c =
     let seen = view.before.before in
     let else = seen.before in
     let l = else.before.before.loop in
-    next-put l.invariant seen.line-at.ensures (omega arith) else.if1.false view.view.ensures.bytes
+    next_put l.invariant seen.line-at.ensures (omega arith) else.if1.false view.view.ensures.bytes
     put.put-point.ensures
 
 all : tie.Need-returns-2 invariant-loop decreases-loop
-all c = let l = c.before.loop in all-put l.invariant (all-texts _ _ _ _ (omega arith))
+all c = let l = c.before.loop in all_put l.invariant (all_texts _ _ _ _ (omega arith))
 
-pub put-points-spec : {M : Type 1} → statement M
-put-points-spec =
+pub put_points_spec : {M : Type 1} → statement M
+put_points_spec =
     tie.close
     (tie.spec
     invariant-loop
     decreases-loop
-    (λ c. at-start (omega arith) (omega arith))
-    (λ c. wrote-length c.before.before.loop.invariant.wrote)
+    (λ c. at_start (omega arith) (omega arith))
+    (λ c. wrote_length c.before.before.loop.invariant.wrote)
     few
     (search rules) (search rules) (search rules) (search rules) (search rules) (search rules)
     again
-    (λ c. wrote-length c.before.loop.invariant.wrote)
+    (λ c. wrote_length c.before.loop.invariant.wrote)
     all)

@@ -1,14 +1,14 @@
-use Rattle.text.proofs.Prelude.{needs}
-use Rattle.tasks.specs.Answer.{wholeIn}
+use Rattle.text.proofs.Prelude.{rules}
+use Rattle.tasks.specs.Answer.{whole_in}
 use Rattle.tasks.proofs.length_read.Statement.{statement}
 use Rattle.tasks.proofs.length_read.Tie as tie
 
-pub length-read-spec : {M : Type 1} → statement M
-unfolding wholeIn
-length-read-spec =
+pub length_read_spec : {M : Type 1} → statement M
+unfolding whole_in
+length_read_spec =
     tie.close
     (tie.spec
-    (search needs) (search needs) (search needs)
+    (search rules) (search rules) (search rules)
     (λ c. rw c.before.filled.given.1)
     (λ c. rw c.enum_told.given.1)
     (λ c. rw c.enum-told2.given.1))

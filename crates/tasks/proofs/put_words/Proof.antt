@@ -1,25 +1,25 @@
-use Rattle.text.proofs.Prelude.{needs}
-use Rattle.text.specs.Spelt.{speltFrom, spelt}
+use Rattle.text.proofs.Prelude.{rules}
+use Rattle.text.specs.Spelt.{spelt_from, spelt}
 use Rattle.tasks.specs.Answer.{words_of}
 use Rattle.tasks.proofs.put_words.Statement.{statement}
 use Rattle.tasks.proofs.put_words.Tie as tie
 
-pub put-words-spec : {M : Type 1} → statement M
-unfolding words_of spelt speltFrom
-put-words-spec =
+pub put_words_spec : {M : Type 1} → statement M
+unfolding words_of spelt spelt_from
+put_words_spec =
     tie.close
     (tie.spec
-    (search needs) (search needs) (search needs) (search needs) (search needs) (search needs)
-    (search needs) (search needs) (search needs) (search needs) (search needs) (search needs)
-    (search needs)
+    (search rules) (search rules) (search rules) (search rules) (search rules) (search rules)
+    (search rules) (search rules) (search rules) (search rules) (search rules) (search rules)
+    (search rules)
     (λ c. let put = c.before.before in
     rw put.before.before.before.enum_told.given.1 put.put-bytes.ensures)
-    (search needs)
+    (search rules)
     (λ c. let put = c.before.before in
     rw put.before.before.before.enum-told2.given.1 put.put-bytes2.ensures)
-    (search needs)
+    (search rules)
     (λ c. let put = c.before.before in
     rw put.before.before.before.enum-told3.given.1 put.put-bytes3.ensures)
-    (search needs)
+    (search rules)
     (λ c. let put = c.before.before in
     rw put.before.before.before.enum-told4.given.1 put.put-bytes4.ensures))

@@ -1,5 +1,5 @@
-use Rattle.text.proofs.Prelude.{needs}
-use Rattle.files.proofs.Filling.{ended-inside}
+use Rattle.text.proofs.Prelude.{rules}
+use Rattle.files.proofs.Filling.{ended_inside}
 use Rattle.tasks.proofs.run_files.Statement.{statement}
 use Rattle.tasks.proofs.run_files.Tie as tie
 
@@ -8,15 +8,15 @@ inside : tie.Need-answer-of-requires
 inside c κs =
     let labels = c.before.before.before.before in
     let log = labels.before.before.before in (
-      ended-inside log.fill.result log.fill.ensures,
-      ended-inside labels.fill-labels.result labels.fill-labels.ensures,
+      ended_inside log.fill.result log.fill.ensures,
+      ended_inside labels.fill-labels.result labels.fill-labels.ensures,
     )
 
-pub run-files-spec : {M : Type 1} → statement M
-run-files-spec =
+pub run_files_spec : {M : Type 1} → statement M
+run_files_spec =
     tie.close
     (tie.spec
-    (search needs) (search needs) (search needs) (search needs) (search needs) (search needs)
-    (search needs) (search needs) (search needs) (search needs) (search needs)
+    (search rules) (search rules) (search rules) (search rules) (search rules) (search rules)
+    (search rules) (search rules) (search rules) (search rules) (search rules)
     inside
-    (search needs) (search needs) (search needs) (search needs) (search needs) (search needs))
+    (search rules) (search rules) (search rules) (search rules) (search rules) (search rules))

@@ -1,9 +1,9 @@
 use Rattle.text.specs.Prelude.{ℕ, ◌-◌, ◌≡◌, length, get_or}
-use Rattle.text.proofs.Prelude.{needs, arith, refl, sym, ◌∙◌}
+use Rattle.text.proofs.Prelude.{rules, arith, refl, sym, ◌∙◌}
 use mir.Syntax.{w64}
 use mir.Val.{Fits}
-use Rattle.total.proofs.Fits.{all-fit}
-use Rattle.total.proofs.Adding.{Made, over-here, sum-here, sums-made}
+use Rattle.total.proofs.Fits.{all_fit_lem}
+use Rattle.total.proofs.Adding.{Made, over_here, sum_here, sums_made}
 use Rattle.total.proofs.add_counts.Statement.{statement}
 use Rattle.total.proofs.add_counts.Tie as tie
 
@@ -14,16 +14,16 @@ abbrev decreases-loop : tie.decreases-loop
 decreases-loop counts more all₀ i₀ all i = 13 - i
 
 wide : (c : tie.Start invariant-loop decreases-loop) → (length c.args.t1 ≡ 13) × (length c.args.t2 ≡ 13)
-wide c = (search needs, search needs)
+wide c = (search rules, search rules)
 
 same : (c : tie.Start invariant-loop decreases-loop) → length c.args.t1 ≡ length c.args.t2
 same c = (wide c).0 ∙ sym (wide c).1
 
 fits : (c : tie.Start invariant-loop decreases-loop) (i : ℕ) → Fits w64 (get_or c.args.t1 i 0)
-fits c i = search needs
+fits c i = search rules
 
 starts : tie.Need-loop-init invariant-loop decreases-loop
-starts c = record { wide = refl; done = refl; fit = all-fit _ (λ i. omega (arith, fits c i)) }
+starts c = record { wide = refl; done = refl; fit = all_fit_lem _ (λ i. omega (arith, fits c i)) }
 
 sub : tie.Need-overflow-sub-if1 invariant-loop decreases-loop
 sub c = omega (arith, fits c.before.before c.before.loop.i)
@@ -31,7 +31,7 @@ sub c = omega (arith, fits c.before.before c.before.loop.i)
 over : tie.Need-returns invariant-loop decreases-loop
 over c =
     let l = c.before.before in
-    over-here _ _ l.loop.i (omega (arith, fits l.before l.loop.i))
+    over_here _ _ l.loop.i (omega (arith, fits l.before l.loop.i))
 
 sum : tie.Need-overflow-add-all invariant-loop decreases-loop
 sum c = let l = c.before.before in record { fits = omega (arith, fits l.before l.loop.i) }
@@ -42,29 +42,29 @@ write c = let l = c.before.before in omega (arith, l.loop.invariant.wide, (wide 
 again : tie.Need-loop-preserved invariant-loop decreases-loop
 again c =
     let l = c.before.before in
-    sum-here _ _ l.loop.i _ (same l.before) l.loop.invariant (omega (arith, (wide l.before).0))
+    sum_here _ _ l.loop.i _ (same l.before) l.loop.invariant (omega (arith, (wide l.before).0))
     (omega (arith, fits l.before l.loop.i))
 
 made : tie.Need-returns-2 invariant-loop decreases-loop
 made c =
     let l = c.before in
-    sums-made _ _ l.loop.i _ (same l.before) l.loop.invariant (omega (arith, (wide l.before).0))
+    sums_made _ _ l.loop.i _ (same l.before) l.loop.invariant (omega (arith, (wide l.before).0))
 
-pub add-counts-spec : {M : Type 1} → statement M
-add-counts-spec =
+pub add_counts_spec : {M : Type 1} → statement M
+add_counts_spec =
     tie.close
     (tie.spec
     invariant-loop
     decreases-loop
     starts
-    (search needs) (search needs)
+    (search rules) (search rules)
     sub
-    (search needs) (search needs)
+    (search rules) (search rules)
     over
-    (search needs) (search needs) (search needs) (search needs)
+    (search rules) (search rules) (search rules) (search rules)
     sum
-    (search needs)
+    (search rules)
     write
-    (search needs) (search needs)
+    (search rules) (search rules)
     again
     made)

@@ -1,4 +1,4 @@
-use Rattle.text.proofs.Prelude.{needs, refl, sym, ◌∙◌}
+use Rattle.text.proofs.Prelude.{rules, refl, sym, ◌∙◌}
 use Rattle.watch_text.proofs.put_lines.Statement.{statement}
 use Rattle.watch_text.proofs.put_lines.Tie as tie
 
@@ -8,15 +8,15 @@ ready c =
     let test = put.before.before in
     rw (sym test.before.is-ready.ensures ∙ test.if1.true) put.put-ready.ensures
 
-not-ready : tie.Need-returns-2
-not-ready c = rw (sym c.before.is-ready.ensures ∙ c.if1.false) (refl, refl)
+not_ready : tie.Need-returns-2
+not_ready c = rw (sym c.before.is-ready.ensures ∙ c.if1.false) (refl, refl)
 
-pub put-lines-spec : {M : Type 1} → statement M
-put-lines-spec =
+pub put_lines_spec : {M : Type 1} → statement M
+put_lines_spec =
     tie.close
     (tie.spec
-    (search needs)
+    (search rules)
     (λ c κs. let test = c.before in sym test.before.is-ready.ensures ∙ test.if1.true)
-    (search needs)
+    (search rules)
     ready
-    not-ready)
+    not_ready)

@@ -1,8 +1,8 @@
-use Rattle.text.specs.Prelude.{◌-◌, ◌≤◌, ◌<◌, length, now}
-use Rattle.text.proofs.Prelude.{needs, arith, ◌∙◌}
-use Rattle.put.proofs.Writing.{wrote-length}
+use Rattle.text.specs.Prelude.{◌-◌, ◌≤◌, ◌<◌, length}
+use Rattle.text.proofs.Prelude.{rules, arith, ◌∙◌}
+use Rattle.put.proofs.Writing.{wrote_length}
 use Rattle.watch_text.specs.Feed.{view}
-use Rattle.watch_text.proofs.Feeding.{Feeding, at-start, at-end, cut-ends, counts-small, line, full}
+use Rattle.watch_text.proofs.Feeding.{Feeding, at_start, at_end, cut_ends, counts_small, line, full}
 use Rattle.watch_text.proofs.put_ready.Statement.{statement}
 use Rattle.watch_text.proofs.put_ready.Tie as tie
 
@@ -13,17 +13,17 @@ abbrev decreases-loop : tie.decreases-loop
 decreases-loop lines buf₀ watch₀ taken₀ end₀ buf watch taken end = length lines - taken
 
 loop-holds : tie.Need-loop-init invariant-loop decreases-loop
-loop-holds c = at-start c.before.before.requires (omega arith)
+loop-holds c = at_start c.before.before.requires (omega arith)
 
 -- where the line here ends
 ends : (c : tie.After-cut-at invariant-loop decreases-loop) →
     (c.before.before.loop.taken < c.cut_at.result.next)
-    × (c.cut_at.result.next ≤ length (now c.before.before.before.before.before.args.lines))
-ends c = cut-ends c.before.before.loop.invariant c.before.loop-test.true c.cut_at.ensures
+    × (c.cut_at.result.next ≤ length (c.before.before.before.before.before.args.lines.now))
+ends c = cut_ends c.before.before.loop.invariant c.before.loop-test.true c.cut_at.ensures
 
 -- the text of the line here has no room
-full-here : tie.Need-returns invariant-loop decreases-loop
-full-here c =
+full_here : tie.Need-returns invariant-loop decreases-loop
+full_here c =
     let put = c.before.before.before in
     let after = put.before.before in
     let view = after.before.before in
@@ -36,7 +36,7 @@ same_length : tie.Need-same-length invariant-loop decreases-loop
 same_length c =
     let put = c.before.before.before in
     let test = put.before.before.before.before.before.before.before in
-    wrote-length put.put.ensures ∙ wrote-length test.before.loop.invariant.wrote
+    wrote_length put.put.ensures ∙ wrote_length test.before.loop.invariant.wrote
 
 loop-again : tie.Need-loop-preserved invariant-loop decreases-loop
 loop-again c =
@@ -48,21 +48,21 @@ loop-again c =
     line test.before.loop.invariant test.loop-test.true cut.cut_at.ensures view.view.ensures.bytes
     after.after.ensures put.put.ensures c.if1.false
 
-pub put-ready-spec : {M : Type 1} → statement M
-put-ready-spec =
+pub put_ready_spec : {M : Type 1} → statement M
+put_ready_spec =
     tie.close
     (tie.spec
     invariant-loop
     decreases-loop
     loop-holds
-    (search needs) (search needs)
-    (λ c. omega (arith, (ends (search needs)).0))
-    (λ c κs. let cut : tie.After-cut-at invariant-loop decreases-loop = search needs in
-    counts-small cut.before.before.loop.inv cut.before.loop-test.taken cut.cut_at.ensures)
-    (search needs)
+    (search rules) (search rules)
+    (λ c. omega (arith, (ends (search rules)).0))
+    (λ c κs. let cut : tie.After-cut-at invariant-loop decreases-loop = search rules in
+    counts_small cut.before.before.loop.inv cut.before.loop-test.taken cut.cut_at.ensures)
+    (search rules)
     same_length
-    full-here
-    (λ c. omega (arith, (ends (search needs)).0, (ends (search needs)).1))
+    full_here
+    (λ c. omega (arith, (ends (search rules)).0, (ends (search rules)).1))
     loop-again
-    (λ c. wrote-length c.before.loop.invariant.wrote)
-    (λ c. at-end c.before.loop.invariant c.loop-test.false))
+    (λ c. wrote_length c.before.loop.invariant.wrote)
+    (λ c. at_end c.before.loop.invariant c.loop-test.false))

@@ -1,4 +1,4 @@
-use Rattle.text.proofs.Prelude.{needs}
+use Rattle.text.proofs.Prelude.{rules}
 use Rattle.watches.proofs.Watching.{finished}
 use Rattle.watches.proofs.finish.Statement.{statement}
 use Rattle.watches.proofs.finish.Tie as tie
@@ -9,4 +9,4 @@ returns c =
     finished write.write-lines.ensures c.stop.ensures
 
 pub finish_spec : {M : Type 1} → statement M
-finish_spec = tie.close (tie.spec (search needs) (search needs) (search needs) returns)
+finish_spec = tie.close (tie.spec (search rules) (search rules) (search rules) returns)

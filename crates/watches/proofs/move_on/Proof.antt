@@ -1,7 +1,7 @@
-use Rattle.text.specs.Prelude.{◌≤◌, length, take, now}
-use Rattle.text.proofs.Prelude.{needs, arith, refl, sym, ◌∙◌, length-take-le, never}
+use Rattle.text.specs.Prelude.{◌≤◌, length, take}
+use Rattle.text.proofs.Prelude.{rules, arith, refl, sym, ◌∙◌, length-take-le, never}
 use native.Mathlib.Nat.{sub-zero}
-use Rattle.window.specs.Piece.{pieceEnd}
+use Rattle.window.specs.Piece.{piece_end_of}
 use Rattle.window.proofs.Wholes.{whole_le}
 use Rattle.watches.specs.Watching.{stopped}
 use Rattle.watches.proofs.Watching.{goes_last, moved}
@@ -10,13 +10,13 @@ use Rattle.watches.proofs.move_on.Tie as tie
 
 -- the whole lines are inside the window
 inside : (c : tie.After-piece-end) →
-    c.piece-end.result ≤ length (now c.before.before.before.before.before.args.win)
-unfolding pieceEnd
+    c.piece-end.result ≤ length (c.before.before.before.before.before.args.win.now)
+unfolding piece_end_of
 inside c =
     let start = c.before.before.before.before.before in
     let end = rw sub-zero at c.piece-end.ensures in
     let n = start.args.n in
-    let win = now start.args.win in
+    let win = start.args.win.now in
     omega (arith, end, whole_le (take n win), length-take-le n win start.requires, start.requires)
 
 not_written : tie.Need-returns
@@ -37,13 +37,13 @@ kept c =
     moved start.requires (rw sub-zero at end.piece-end.ensures) (rw sub-zero at write.write-lines.ensures) well
     (rw sub-zero at keep.keep-rest.ensures.0) (rw (sub-zero, rw sub-zero at keep.keep-rest.ensures.1))
 
-pub move-on-spec : {M : Type 1} → statement M
-move-on-spec =
+pub move_on_spec : {M : Type 1} → statement M
+move_on_spec =
     tie.close
     (tie.spec
-    (search needs) (search needs) (search needs) (search needs) (search needs) (search needs)
-    (λ c. let h = inside c.before in search needs)
-    (search needs) (search needs) (search needs) (search needs) (search needs)
+    (search rules) (search rules) (search rules) (search rules) (search rules) (search rules)
+    (λ c. let h = inside c.before in search rules)
+    (search rules) (search rules) (search rules) (search rules) (search rules)
     not_written
-    (search needs) (search needs) (search needs) (search needs) (search needs) (search needs)
+    (search rules) (search rules) (search rules) (search rules) (search rules) (search rules)
     kept)

@@ -1,5 +1,5 @@
-use Rattle.text.proofs.Prelude.{needs}
-use Rattle.window.proofs.Wholes.{NoneFrom, none_yet, none_at_all, last-here, none_here}
+use Rattle.text.proofs.Prelude.{rules}
+use Rattle.window.proofs.Wholes.{NoneFrom, none_yet, none_at_all, last_here, none_here}
 use Rattle.window.proofs.whole_length.Statement.{statement}
 use Rattle.window.proofs.whole_length.Tie as tie
 
@@ -9,15 +9,15 @@ invariant-loop piece i₀ i = NoneFrom piece i
 abbrev decreases-loop : tie.decreases-loop
 decreases-loop piece i₀ i = i
 
-pub whole-length-spec : {M : Type 1} → statement M
-whole-length-spec =
+pub whole_length_spec : {M : Type 1} → statement M
+whole_length_spec =
     tie.close
     (tie.spec
     invariant-loop
     decreases-loop
     (λ c. none_yet _)
-    (search needs) (search needs)
-    (λ c. last-here c.before.before.before.loop.invariant c.before.before.loop-test.true c.if1.true)
-    (search needs) (search needs)
+    (search rules) (search rules)
+    (λ c. last_here c.before.before.before.loop.invariant c.before.before.loop-test.true c.if1.true)
+    (search rules) (search rules)
     (λ c. none_here c.before.before.before.loop.invariant c.before.before.loop-test.true c.if1.false)
     (λ c. none_at_all c.before.loop.invariant c.loop-test.false))

@@ -1,39 +1,39 @@
-use Rattle.text.specs.Prelude.{ℕ, ◌≡◌, List, now, ok}
-use Rattle.text.proofs.Prelude.{needs, refl, came, on, off}
-use Rattle.part.specs.Part.{partBytes, partText, text_of, foundRes}
-use Rattle.part.proofs.Parts.{text-found}
+use Rattle.text.specs.Prelude.{ℕ, ◌≡◌, List, ok}
+use Rattle.text.proofs.Prelude.{rules, refl, came, on, off}
+use Rattle.part.specs.Part.{part_bytes, part_text, text_of, found_res}
+use Rattle.part.proofs.Parts.{text_found}
 use Rattle.print.proofs.Printing.{refused, no_room, written}
-use Rattle.b_record.specs.BRecord.{bBody, bText}
+use Rattle.b_record.specs.BRecord.{b_body, b_text}
 use Rattle.b_record.specs.declared.BRecord.{BRecord}
 use Rattle.b_record.proofs.BRecord.print.Statement.{statement}
 use Rattle.b_record.proofs.BRecord.print.Tie as tie
 
 abbrev line : tie.Start → List ℕ
-line b = now b.args.line
+line b = b.args.line.now
 
 abbrev fix : tie.Start → BRecord
 fix b = b.args.self
 
 -- the rest is found, so there is a text
 text : (c : tie.After--inside)
-    → ok (bBody (fix (search needs)) (partBytes (fix (search needs)).rest (line (search needs))))
-    ≡ bText (fix (search needs)) (line (search needs))
-unfolding bText partText
-text c = on _ (text-found _ (came foundRes c.-inside.given.1 c.before.before.find.ensures)) refl
+    → ok (b_body (fix (search rules)) (part_bytes (fix (search rules)).rest (line (search rules))))
+    ≡ b_text (fix (search rules)) (line (search rules))
+unfolding b_text part_text
+text c = on _ (text_found _ (came found_res c.-inside.given.1 c.before.before.find.ensures)) refl
 
 outside : tie.Need-returns-2
-unfolding bText partText text_of
+unfolding b_text part_text text_of
 outside c =
-    refused _ (off _ (off _ (came foundRes c.before.no.given.1 c.before.before.before.find.ensures)))
+    refused _ (off _ (off _ (came found_res c.before.no.given.1 c.before.before.before.find.ensures)))
 
-pub print-spec : {M : Type 1} → statement M
-print-spec =
+pub print_spec : {M : Type 1} → statement M
+print_spec =
     tie.close
     (tie.spec
-    (search needs) (search needs) (search needs) (search needs) (search needs)
-    (λ c. no_room (text (search needs)) c.before.before.put-piece.ensures (search needs))
-    (search needs)
+    (search rules) (search rules) (search rules) (search rules) (search rules)
+    (λ c. no_room (text (search rules)) c.before.before.put-piece.ensures (search rules))
+    (search rules)
     outside
-    (search needs)
-    (λ c. written (text (search needs)) c.before.before.before.before.before.before.put-piece.ensures
-    (search needs) c.before.before.put-piece2.ensures))
+    (search rules)
+    (λ c. written (text (search rules)) c.before.before.before.before.before.before.put-piece.ensures
+    (search rules) c.before.before.put-piece2.ensures))

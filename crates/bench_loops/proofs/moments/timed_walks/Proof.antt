@@ -1,14 +1,14 @@
 use Rattle.text.specs.Prelude.{◌-◌, ◌≤◌, ◌≡◌}
-use Rattle.text.proofs.Prelude.{needs, arith, refl}
+use Rattle.text.proofs.Prelude.{rules, arith, refl}
 use Rattle.bench_loops.specs.Timed.{summed}
-use Rattle.bench_loops.specs.Moments.{momentSum}
-use Rattle.bench_loops.proofs.Minutes.{minute-more}
+use Rattle.bench_loops.specs.Moments.{moment_sum}
+use Rattle.bench_loops.proofs.Minutes.{minute_more}
 use Rattle.bench_loops.proofs.moments.timed_walks.Statement.{statement}
 use Rattle.bench_loops.proofs.moments.timed_walks.Tie as tie
 
 -- the sum over the minutes before
 abbrev invariant-loop : tie.invariant-loop
-invariant-loop log hours seconds sum₀ minutes₀ sum minutes = (minutes ≤ 60) × (sum ≡ momentSum minutes log hours seconds)
+invariant-loop log hours seconds sum₀ minutes₀ sum minutes = (minutes ≤ 60) × (sum ≡ moment_sum minutes log hours seconds)
 
 abbrev decreases-loop : tie.decreases-loop
 decreases-loop log hours seconds sum₀ minutes₀ sum minutes = 60 - minutes
@@ -20,21 +20,21 @@ again c =
     let find = of.before in
     let l = find.before.before in (
       omega arith,
-      minute-more _ _ _ l.loop.minutes l.loop.invariant.1 find.find-by-walk.ensures of.of-moment.ensures
+      minute_more _ _ _ l.loop.minutes l.loop.invariant.1 find.find-by-walk.ensures of.of-moment.ensures
           c.wrapping-add-u64.ensures,
     )
 
 ends : tie.Need-returns invariant-loop decreases-loop
 ends c = let all : c.before.loop.minutes ≡ 60 = omega arith in rw all at c.before.loop.invariant.1
 
-pub timed-walks-spec : {M : Type 1} → statement M
-unfolding momentSum
-timed-walks-spec =
+pub timed_walks_spec : {M : Type 1} → statement M
+unfolding moment_sum
+timed_walks_spec =
     tie.close
     (tie.spec
     invariant-loop
     decreases-loop
     (λ c. (omega arith, refl))
-    (search needs) (search needs) (search needs) (search needs) (search needs)
+    (search rules) (search rules) (search rules) (search rules) (search rules)
     again
     ends)

@@ -1,30 +1,30 @@
 use Rattle.text.specs.Prelude.{◌-◌, ◌≤◌, ◌≡◌, length, take}
-use Rattle.text.proofs.Prelude.{needs, arith, take_all}
-use Rattle.block_read.specs.Block.{readAnswers}
+use Rattle.text.proofs.Prelude.{rules, arith, take_all}
+use Rattle.block_read.specs.Block.{read_answers_of}
 use Rattle.block_read.specs.Held.{Came}
 use Rattle.block_read.proofs.Coming.{done}
-use Rattle.block_read.proofs.Counts.{in-turn}
+use Rattle.block_read.proofs.Counts.{in_turn}
 use Rattle.block_read.proofs.answers.read_answers.Statement.{statement}
 use Rattle.block_read.proofs.answers.read_answers.Tie as tie
 
 -- the first i counts are read
 abbrev invariant-loop : tie.invariant-loop
 invariant-loop text counts₀ from i₀ counts place i = (i ≤ 13) × (length counts ≡ 13)
-    × Came text from (readAnswers i 0) place (take i counts)
+    × Came text from (read_answers_of i 0) place (take i counts)
 
 abbrev decreases-loop : tie.decreases-loop
 decreases-loop text counts₀ from i₀ counts place i = 13 - i
 
 starts : tie.Need-loop-init invariant-loop decreases-loop
-unfolding readAnswers
-starts c = (search needs, search needs, done (search needs))
+unfolding read_answers_of
+starts c = (search rules, search rules, done (search rules))
 
 again : tie.Need-loop-preserved invariant-loop decreases-loop
 again c =
-    let l : tie.At-loop invariant-loop decreases-loop = search needs in (
-      search needs,
-      search needs,
-      in-turn l.loop.i _ (search needs) l.loop.inv.2 c.before.read_answer.ensures,
+    let l : tie.At-loop invariant-loop decreases-loop = search rules in (
+      search rules,
+      search rules,
+      in_turn l.loop.i _ (search rules) l.loop.inv.2 c.before.read_answer.ensures,
     )
 
 ends : tie.Need-returns invariant-loop decreases-loop
@@ -33,13 +33,13 @@ ends c =
     let e : l.loop.i ≡ 13 = omega arith in
     rw (take_all 13 l.loop.counts (omega arith)) at (rw e at l.loop.invariant.2)
 
-pub read-answers-spec : {M : Type 1} → statement M
-read-answers-spec =
+pub read_answers_spec : {M : Type 1} → statement M
+read_answers_spec =
     tie.close
     (tie.spec
     invariant-loop
     decreases-loop
     starts
-    (search needs) (search needs) (search needs) (search needs) (search needs)
+    (search rules) (search rules) (search rules) (search rules) (search rules)
     again
     ends)

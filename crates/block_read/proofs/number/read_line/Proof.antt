@@ -1,12 +1,12 @@
-use Rattle.text.proofs.Prelude.{needs}
-use Rattle.block_read.specs.Read.{readLine}
+use Rattle.text.proofs.Prelude.{rules}
+use Rattle.block_read.specs.Read.{read_line_of}
 use Rattle.block_read.proofs.Coming.{then}
 use Rattle.block_read.proofs.number.read_line.Statement.{statement}
 use Rattle.block_read.proofs.number.read_line.Tie as tie
 
 line : tie.Need-returns
-unfolding readLine
-line c = let w : tie.After-read-words = search needs in then _ w.read-words.ensures c.read_number.ensures.0
+unfolding read_line_of
+line c = let w : tie.After-read-words = search rules in then _ w.read-words.ensures c.read_number.ensures.0
 
-pub read-line-spec : {M : Type 1} → statement M
-read-line-spec = tie.close (tie.spec (search needs) (search needs) line)
+pub read_line_spec : {M : Type 1} → statement M
+read_line_spec = tie.close (tie.spec (search rules) (search rules) line)

@@ -1,15 +1,15 @@
-use Rattle.text.proofs.Prelude.{needs}
-use Rattle.block_read.specs.Block.{readTime}
+use Rattle.text.proofs.Prelude.{rules}
+use Rattle.block_read.specs.Block.{read_time_of}
 use Rattle.block_read.proofs.Coming.{then}
 use Rattle.block_read.proofs.times.read_time.Statement.{statement}
 use Rattle.block_read.proofs.times.read_time.Tie as tie
 
 time : tie.Need-returns
-unfolding readTime
+unfolding read_time_of
 time c =
-    let w : tie.After-read-words = search needs in
-    let n : tie.After-read-number = search needs in
+    let w : tie.After-read-words = search rules in
+    let n : tie.After-read-number = search rules in
     then _ w.read-words.ensures n.read_number.ensures.0
 
-pub read-time-spec : {M : Type 1} → statement M
-read-time-spec = tie.close (tie.spec (search needs) (search needs) (search needs) time)
+pub read_time_spec : {M : Type 1} → statement M
+read_time_spec = tie.close (tie.spec (search rules) (search rules) (search rules) time)

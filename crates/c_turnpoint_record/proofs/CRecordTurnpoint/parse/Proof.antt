@@ -1,44 +1,44 @@
-use Rattle.text.specs.Prelude.{ℕ, ◌≡◌, true, List, now, ok, no, cut, columns}
-use Rattle.text.proofs.Prelude.{needs, came, on, off, found_in, refused-in, pass, stop, yes≤, no≤, yes=, no=, so-true}
+use Rattle.text.specs.Prelude.{ℕ, ◌≡◌, true, List, ok, no, cut, columns}
+use Rattle.text.proofs.Prelude.{rules, came, on, off, found_in, refused_in, pass, stop, yes≤, no≤, yes=, no=, so_true}
 use Rattle.text.proofs.Prelude.{so_false}
-use Rattle.field.specs.Field.{isAscii, asciiIn}
-use Rattle.position.specs.Position.{readPosition, positionRes}
-use Rattle.c_turnpoint_record.specs.CTurnpoint.{readTurnpoint}
+use Rattle.field.specs.Field.{is_ascii_of, ascii_in}
+use Rattle.position.specs.Position.{read_position, position_res}
+use Rattle.c_turnpoint_record.specs.CTurnpoint.{read_turnpoint}
 use Rattle.c_turnpoint_record.proofs.CRecordTurnpoint.parse.Statement.{statement}
 use Rattle.c_turnpoint_record.proofs.CRecordTurnpoint.parse.Tie as tie
 
 abbrev line : tie.Start → List ℕ
-line b = now b.args.line
+line b = b.args.line.now
 
-ascii : (c : tie.Else3) → isAscii (cut 0 18 (line (search needs))) ≡ true
+ascii : (c : tie.Else3) → is_ascii_of (cut 0 18 (line (search rules))) ≡ true
 unfolding cut
-ascii c = search (so-true)
+ascii c = search (so_true)
 
-position : (c : tie.After-position) → ok c.position.given.0.0 ≡ columns 1 18 readPosition (line (search needs))
+position : (c : tie.After-position) → ok c.position.given.0.0 ≡ columns 1 18 read_position (line (search rules))
 unfolding columns cut
-position c = found_in _ (came positionRes c.position.given.1 c.before.before.parse.ensures)
+position c = found_in _ (came position_res c.position.given.1 c.before.before.parse.ensures)
 
-no-position : (c : tie.After-moved) →
-    no c.moved.result ≡ columns 1 18 readPosition (line (search needs))
+no_position : (c : tie.After-moved) →
+    no c.moved.result ≡ columns 1 18 read_position (line (search rules))
 unfolding columns cut
-no-position c = refused-in _ (came positionRes c.before.before.no-position.given.1
+no_position c = refused_in _ (came position_res c.before.before.no-position.given.1
     c.before.before.before.before.parse.ensures)
     c.moved.ensures
 
-pub parse-spec : {M : Type 1} → statement M
-unfolding readTurnpoint asciiIn cut
-parse-spec =
+pub parse_spec : {M : Type 1} → statement M
+unfolding read_turnpoint ascii_in cut
+parse_spec =
     tie.close
     (tie.spec
-    (λ c. stop _ (no≤ (search needs)))
-    (search needs)
-    (λ c. pass _ (yes≤ (search needs)) (stop _ (no= (search needs))))
-    (search needs) (search needs) (search needs) (search needs)
-    (λ c. pass _ (yes≤ (search needs)) (pass _ (yes= (search needs)) (stop _ (search (so_false)))))
-    (search needs) (search needs) (search needs) (search needs) (search needs) (search needs) (search needs)
-    (search needs)
-    (λ c. pass _ (yes≤ (search needs))
-    (pass _ (yes= (search needs))
-    (pass _ (ascii (search needs)) (on _ (position (search needs)) (rw c.from-column.ensures)))))
-    (λ c. pass _ (yes≤ (search needs))
-    (pass _ (yes= (search needs)) (pass _ (ascii (search needs)) (off _ (no-position (search needs)))))))
+    (λ c. stop _ (no≤ (search rules)))
+    (search rules)
+    (λ c. pass _ (yes≤ (search rules)) (stop _ (no= (search rules))))
+    (search rules) (search rules) (search rules) (search rules)
+    (λ c. pass _ (yes≤ (search rules)) (pass _ (yes= (search rules)) (stop _ (search (so_false)))))
+    (search rules) (search rules) (search rules) (search rules) (search rules) (search rules) (search rules)
+    (search rules)
+    (λ c. pass _ (yes≤ (search rules))
+    (pass _ (yes= (search rules))
+    (pass _ (ascii (search rules)) (on _ (position (search rules)) (rw c.from-column.ensures)))))
+    (λ c. pass _ (yes≤ (search rules))
+    (pass _ (yes= (search rules)) (pass _ (ascii (search rules)) (off _ (no_position (search rules)))))))

@@ -1,6 +1,6 @@
-use Rattle.text.proofs.Prelude.{needs}
+use Rattle.text.proofs.Prelude.{rules}
 use Rattle.c_turnpoint_record.proofs.CRecordTurnpoint.turnpoint_name.Statement.{statement}
 use Rattle.c_turnpoint_record.proofs.CRecordTurnpoint.turnpoint_name.Tie as tie
 
-pub turnpoint-name-spec : {M : Type 1} → statement M
-turnpoint-name-spec = tie.close (tie.spec (search needs) (λ c. c.view.ensures))
+pub turnpoint_name_spec : {M : Type 1} → statement M
+turnpoint_name_spec = tie.close (tie.spec (search rules) (λ c. c.view.ensures))

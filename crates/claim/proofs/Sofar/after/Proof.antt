@@ -1,4 +1,4 @@
-use Rattle.text.proofs.Prelude.{needs, sym, ap, ◌∙◌, first, second}
+use Rattle.text.proofs.Prelude.{rules, sym, ap, ◌∙◌, first, second}
 use Rattle.claim.specs.Step.{is_yes, failed, judged}
 use Rattle.claim.proofs.Sofar.after.Statement.{statement}
 use Rattle.claim.proofs.Sofar.after.Tie as tie
@@ -18,5 +18,5 @@ fails c =
     second _ (ap is_yes (sym asked.before.line-verdict.ensures) ∙ sym asked.is-yes.ensures ∙ c.if1.false)
     (rw asked.before.line-verdict.ensures)
 
-pub after-spec : {M : Type 1} → statement M
-after-spec = tie.close (tie.spec (search needs) (search needs) (search needs) passed fails)
+pub after_spec : {M : Type 1} → statement M
+after_spec = tie.close (tie.spec (search rules) (search rules) (search rules) passed fails)

@@ -1,14 +1,14 @@
-use Rattle.text.proofs.Prelude.{needs, refl, sym, ◌∙◌, first, second}
-use Rattle.claim.specs.Step.{lineVerdict}
+use Rattle.text.proofs.Prelude.{rules, refl, sym, ◌∙◌, first, second}
+use Rattle.claim.specs.Step.{line_verdict_of}
 use Rattle.claim.proofs.Sofar.line_verdict.Statement.{statement}
 use Rattle.claim.proofs.Sofar.line_verdict.Tie as tie
 
 no_start : tie.Need-returns
-unfolding lineVerdict
+unfolding line_verdict_of
 no_start c = let t = c.before in first _ (sym t.before.is-no-start.ensures ∙ t.if1.true) c.no.ensures
 
 table : tie.Need-returns-2
-unfolding lineVerdict
+unfolding line_verdict_of
 table c =
     let t = c.before in
     let e1 = t.before.before in
@@ -16,7 +16,7 @@ table c =
     (first _ (sym t.before.is-out-of-place.ensures ∙ t.if2.true) c.no2.ensures)
 
 long : tie.Need-returns-3
-unfolding lineVerdict
+unfolding line_verdict_of
 long c =
     let t = c.before in
     let e2 = t.before.before in
@@ -26,7 +26,7 @@ long c =
     (first _ t.if3.true c.no3.ensures))
 
 refused : tie.Need-returns-4
-unfolding lineVerdict
+unfolding line_verdict_of
 refused c =
     let t = c.before in
     let e3 = t.before.before in
@@ -38,7 +38,7 @@ refused c =
     (first _ t.if4.true c.no4.ensures)))
 
 book : tie.Need-returns-5
-unfolding lineVerdict
+unfolding line_verdict_of
 book c =
     let t = c.before in
     let e4 = t.before.before in
@@ -52,7 +52,7 @@ book c =
     (first _ t.if5.true c.no5.ensures))))
 
 time : tie.Need-returns-6
-unfolding lineVerdict
+unfolding line_verdict_of
 time c =
     let t = c.before in
     let e5 = t.before.before in
@@ -68,7 +68,7 @@ time c =
     (first _ (sym t.before.is-second-back.ensures ∙ t.if6.true) c.no6.ensures)))))
 
 passed : tie.Need-returns-7
-unfolding lineVerdict
+unfolding line_verdict_of
 passed c =
     let e5 = c.before.before in
     let e4 = e5.before.before in
@@ -82,20 +82,20 @@ passed c =
     (second _ e5.if5.false
     (second _ (sym c.before.is-second-back.ensures ∙ c.if6.false) refl)))))
 
-pub line-verdict-spec : {M : Type 1} → statement M
-line-verdict-spec =
+pub line_verdict_spec : {M : Type 1} → statement M
+line_verdict_spec =
     tie.close
     (tie.spec
-    (search needs) (search needs) (search needs)
+    (search rules) (search rules) (search rules)
     no_start
-    (search needs) (search needs)
+    (search rules) (search rules)
     table
-    (search needs)
+    (search rules)
     long
-    (search needs)
+    (search rules)
     refused
-    (search needs)
+    (search rules)
     book
-    (search needs) (search needs)
+    (search rules) (search rules)
     time
     passed)

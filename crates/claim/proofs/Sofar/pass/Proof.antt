@@ -1,4 +1,4 @@
-use Rattle.text.proofs.Prelude.{needs}
+use Rattle.text.proofs.Prelude.{rules}
 use Rattle.claim.specs.Step.{passed}
 use Rattle.claim.proofs.Sofar.pass.Statement.{statement}
 use Rattle.claim.proofs.Sofar.pass.Tie as tie
@@ -23,5 +23,5 @@ pub pass_spec : {M : Type 1} → statement M
 pass_spec =
     tie.close
     (tie.spec
-    (search needs) (search needs) (search needs) (search needs) (search needs) (search needs) (search needs)
+    (search rules) (search rules) (search rules) (search rules) (search rules) (search rules) (search rules)
     returns)

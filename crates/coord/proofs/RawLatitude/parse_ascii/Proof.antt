@@ -1,14 +1,14 @@
-use Rattle.text.proofs.Prelude.{needs, refl, came, on, off}
-use Rattle.raw_coord.specs.Coord.{coordRes}
-use Rattle.coord.specs.Coord.{latitude, latitudeIn}
+use Rattle.text.proofs.Prelude.{rules, refl, came, on, off}
+use Rattle.raw_coord.specs.Coord.{coord_res}
+use Rattle.coord.specs.Coord.{latitude, latitude_in}
 use Rattle.coord.proofs.RawLatitude.parse_ascii.Statement.{statement}
 use Rattle.coord.proofs.RawLatitude.parse_ascii.Tie as tie
 
-pub parse-ascii-spec : {M : Type 1} → statement M
-unfolding latitudeIn latitude
-parse-ascii-spec =
+pub parse_ascii_spec : {M : Type 1} → statement M
+unfolding latitude_in latitude
+parse_ascii_spec =
     tie.close
     (tie.spec
-    (search needs) (search needs) (search needs)
-    (λ c. on _ (came coordRes c.before.coord.given.1 c.before.before.before.parse-ascii.ensures) refl)
-    (λ c. off _ (came coordRes c.before.no.given.1 c.before.before.before.parse-ascii.ensures)))
+    (search rules) (search rules) (search rules)
+    (λ c. on _ (came coord_res c.before.coord.given.1 c.before.before.before.parse-ascii.ensures) refl)
+    (λ c. off _ (came coord_res c.before.no.given.1 c.before.before.before.parse-ascii.ensures)))

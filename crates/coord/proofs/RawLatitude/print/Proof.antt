@@ -1,10 +1,10 @@
-use Rattle.text.proofs.Prelude.{needs}
+use Rattle.text.proofs.Prelude.{rules}
 use Rattle.print.proofs.Printing.{no_room, written}
 use Rattle.coord.proofs.RawLatitude.print.Statement.{statement}
 use Rattle.coord.proofs.RawLatitude.print.Tie as tie
 
-pub print-spec : {M : Type 1} → statement M
-print-spec =
+pub print_spec : {M : Type 1} → statement M
+print_spec =
     tie.close
-    (tie.spec (search needs) (search needs) (λ c. search (no_room)) (search needs) (search needs)
+    (tie.spec (search rules) (search rules) (λ c. search (no_room)) (search rules) (search rules)
     (λ c. search (written)))

@@ -1,8 +1,8 @@
-use Rattle.text.proofs.Prelude.{needs}
-use Rattle.coord.specs.Coord.{longitudeBook}
+use Rattle.text.proofs.Prelude.{rules}
+use Rattle.coord.specs.Coord.{longitude_book}
 use Rattle.coord.proofs.RawLongitude.by_the_book.Statement.{statement}
 use Rattle.coord.proofs.RawLongitude.by_the_book.Tie as tie
 
-pub by-the-book-spec : {M : Type 1} → statement M
-unfolding longitudeBook
-by-the-book-spec = tie.close (tie.spec (search needs) (λ c. c.by-the-book.ensures))
+pub by_the_book_spec : {M : Type 1} → statement M
+unfolding longitude_book
+by_the_book_spec = tie.close (tie.spec (search rules) (λ c. c.by-the-book.ensures))

@@ -1,14 +1,14 @@
-use Rattle.text.proofs.Prelude.{needs, refl, came, on, off}
-use Rattle.raw_coord.specs.Coord.{coordRes}
-use Rattle.coord.specs.Coord.{longitude, longitudeBy}
+use Rattle.text.proofs.Prelude.{rules, refl, came, on, off}
+use Rattle.raw_coord.specs.Coord.{coord_res}
+use Rattle.coord.specs.Coord.{longitude, longitude_by}
 use Rattle.coord.proofs.RawLongitude.lettered.Statement.{statement}
 use Rattle.coord.proofs.RawLongitude.lettered.Tie as tie
 
-pub lettered-spec : {M : Type 1} → statement M
-unfolding longitudeBy longitude
-lettered-spec =
+pub lettered_spec : {M : Type 1} → statement M
+unfolding longitude_by longitude
+lettered_spec =
     tie.close
     (tie.spec
-    (search needs) (search needs) (search needs)
-    (λ c. on _ (came coordRes c.before.coord.given.1 c.before.before.before.lettered.ensures) refl)
-    (λ c. off _ (came coordRes c.before.no.given.1 c.before.before.before.lettered.ensures)))
+    (search rules) (search rules) (search rules)
+    (λ c. on _ (came coord_res c.before.coord.given.1 c.before.before.before.lettered.ensures) refl)
+    (λ c. off _ (came coord_res c.before.no.given.1 c.before.before.before.lettered.ensures)))

@@ -1,14 +1,14 @@
-use Rattle.text.proofs.Prelude.{needs, refl, came, on, off}
-use Rattle.raw_coord.specs.Coord.{coordRes}
-use Rattle.coord.specs.Coord.{longitude, newLongitude}
+use Rattle.text.proofs.Prelude.{rules, refl, came, on, off}
+use Rattle.raw_coord.specs.Coord.{coord_res}
+use Rattle.coord.specs.Coord.{longitude, new_longitude}
 use Rattle.coord.proofs.RawLongitude.new.Statement.{statement}
 use Rattle.coord.proofs.RawLongitude.new.Tie as tie
 
 pub new_spec : {M : Type 1} → statement M
-unfolding newLongitude longitude
+unfolding new_longitude longitude
 new_spec =
     tie.close
     (tie.spec
-    (search needs) (search needs) (search needs)
-    (λ c. on _ (came coordRes c.before.coord.given.1 c.before.before.before.new.ensures) refl)
-    (λ c. off _ (came coordRes c.before.no.given.1 c.before.before.before.new.ensures)))
+    (search rules) (search rules) (search rules)
+    (λ c. on _ (came coord_res c.before.coord.given.1 c.before.before.before.new.ensures) refl)
+    (λ c. off _ (came coord_res c.before.no.given.1 c.before.before.before.new.ensures)))

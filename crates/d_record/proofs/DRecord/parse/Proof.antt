@@ -1,36 +1,36 @@
-use Rattle.text.specs.Prelude.{ℕ, ◌≡◌, List, now, Res, ok, no, byte}
-use Rattle.text.proofs.Prelude.{needs, refl, came, on, off, pass, stop, yes=, no=, so-true, so_false}
-use Rattle.field.specs.Field.{ascii, asciiIn}
-use Rattle.d_record.specs.DRecord.{qualifierOf, readStation, readD, qualifierRes}
+use Rattle.text.specs.Prelude.{ℕ, ◌≡◌, List, Res, ok, no, byte}
+use Rattle.text.proofs.Prelude.{rules, refl, came, on, off, pass, stop, yes=, no=, so_true, so_false}
+use Rattle.field.specs.Field.{ascii, ascii_in}
+use Rattle.d_record.specs.DRecord.{qualifier_of, read_station, read_d, qualifier_res}
 use Rattle.d_record.specs.declared.DRecord.{DRecord}
 use Rattle.d_record.proofs.DRecord.parse.Statement.{statement}
 use Rattle.d_record.proofs.DRecord.parse.Tie as tie
 
 abbrev line : tie.Start → List ℕ
-line b = now b.args.line
+line b = b.args.line.now
 
 -- past the tests the line is read by its qualifier and its station
-in-line : (c : tie.Else3) {x : Res DRecord} → x ≡ readStation (line (search needs)) → x ≡ readD (line (search needs))
-unfolding readD ascii asciiIn
-in-line c h = pass _ (yes= (search needs)) (pass _ (yes= (search needs)) (pass _ (search (so-true)) h))
+in_line_lem : (c : tie.Else3) {x : Res DRecord} → x ≡ read_station (line (search rules)) → x ≡ read_d (line (search rules))
+unfolding read_d ascii ascii_in
+in_line_lem c h = pass _ (yes= (search rules)) (pass _ (yes= (search rules)) (pass _ (search (so_true)) h))
 
-qualifier : (c : tie.After-qualifier) → ok c.qualifier.given.0.0 ≡ qualifierOf (byte 1 (line (search needs)))
-qualifier c = came qualifierRes c.qualifier.given.1 c.before.before.from-letter.ensures
+qualifier : (c : tie.After-qualifier) → ok c.qualifier.given.0.0 ≡ qualifier_of (byte 1 (line (search rules)))
+qualifier c = came qualifier_res c.qualifier.given.1 c.before.before.from-letter.ensures
 
-no-qualifier : (c : tie.After-no-qualifier)
-    → no c.no-qualifier.given.0.0 ≡ qualifierOf (byte 1 (line (search needs)))
-no-qualifier c = came qualifierRes c.no-qualifier.given.1 c.before.before.from-letter.ensures
+no_qualifier : (c : tie.After-no-qualifier)
+    → no c.no-qualifier.given.0.0 ≡ qualifier_of (byte 1 (line (search rules)))
+no_qualifier c = came qualifier_res c.no-qualifier.given.1 c.before.before.from-letter.ensures
 
-pub parse-spec : {M : Type 1} → statement M
-unfolding readD readStation ascii asciiIn
-parse-spec =
+pub parse_spec : {M : Type 1} → statement M
+unfolding read_d read_station ascii ascii_in
+parse_spec =
     tie.close
     (tie.spec
-    (λ c. stop _ (no= (search needs)))
-    (search needs)
-    (λ c. pass _ (yes= (search needs)) (stop _ (no= (search needs))))
-    (search needs)
-    (λ c. pass _ (yes= (search needs)) (pass _ (yes= (search needs)) (stop _ (search (so_false)))))
-    (search needs) (search needs) (search needs) (search needs)
-    (λ c. in-line (search needs) (on _ (qualifier (search needs)) refl))
-    (λ c. in-line (search needs) (off _ (no-qualifier (search needs)))))
+    (λ c. stop _ (no= (search rules)))
+    (search rules)
+    (λ c. pass _ (yes= (search rules)) (stop _ (no= (search rules))))
+    (search rules)
+    (λ c. pass _ (yes= (search rules)) (pass _ (yes= (search rules)) (stop _ (search (so_false)))))
+    (search rules) (search rules) (search rules) (search rules)
+    (λ c. in_line_lem (search rules) (on _ (qualifier (search rules)) refl))
+    (λ c. in_line_lem (search rules) (off _ (no_qualifier (search rules)))))

@@ -1,12 +1,12 @@
-use Rattle.text.proofs.Prelude.{needs}
+use Rattle.text.proofs.Prelude.{rules}
 use Rattle.put.proofs.Writing.{then}
-use Rattle.d_record.specs.DRecord.{dBody}
+use Rattle.d_record.specs.DRecord.{d_body}
 use Rattle.d_record.proofs.DRecord.put_piece.Statement.{statement}
 use Rattle.d_record.proofs.DRecord.put_piece.Tie as tie
 
 -- the byte that is put second is the qualifier's
 returns : tie.Need-returns
-unfolding dBody
+unfolding d_body
 returns c =
     let station = c.before.before in
     let qualifier = station.before.before.before.before in
@@ -14,6 +14,6 @@ returns c =
     rw qualifier.before.letter.ensures
     at (then letter.put_byte.ensures (then qualifier.put-byte2.ensures station.put-part.ensures))
 
-pub put-piece-spec : {M : Type 1} → statement M
-put-piece-spec =
-    tie.close (tie.spec (search needs) (search needs) (search needs) (search needs) (search needs) returns)
+pub put_piece_spec : {M : Type 1} → statement M
+put_piece_spec =
+    tie.close (tie.spec (search rules) (search rules) (search rules) (search rules) (search rules) returns)

@@ -1,10 +1,10 @@
-use Rattle.text.proofs.Prelude.{needs, sym, ap}
-use Rattle.d_record.specs.DRecord.{qualifierLetter}
+use Rattle.text.proofs.Prelude.{rules, sym, ap}
+use Rattle.d_record.specs.DRecord.{qualifier_letter}
 use Rattle.d_record.proofs.GpsQualifier.letter.Statement.{statement}
 use Rattle.d_record.proofs.GpsQualifier.letter.Tie as tie
 
-pub letter-spec : {M : Type 1} → statement M
-unfolding qualifierLetter
-letter-spec =
-    tie.close (tie.spec (search needs) (search needs) (λ c. ap qualifierLetter (sym c.enum_told.given.1))
-    (λ c. ap qualifierLetter (sym c.enum-told2.given.1)))
+pub letter_spec : {M : Type 1} → statement M
+unfolding qualifier_letter
+letter_spec =
+    tie.close (tie.spec (search rules) (search rules) (λ c. ap qualifier_letter (sym c.enum_told.given.1))
+    (λ c. ap qualifier_letter (sym c.enum-told2.given.1)))

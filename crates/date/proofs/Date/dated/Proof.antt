@@ -1,14 +1,14 @@
-use Rattle.text.proofs.Prelude.{needs, sym, yes≤, no≤, holds, fails, tested}
+use Rattle.text.proofs.Prelude.{rules, sym, yes≤, no≤, holds, fails, tested}
 use Rattle.date.specs.Date.{dated}
 use Rattle.date.proofs.Date.dated.Statement.{statement}
 use Rattle.date.proofs.Date.dated.Tie as tie
 
-pub dated-spec : {M : Type 1} → statement M
+pub dated_spec : {M : Type 1} → statement M
 unfolding dated
-dated-spec =
+dated_spec =
     tie.close
     (tie.spec
-    (λ c. sym (fails _ (no≤ (search needs))))
-    (λ c. sym (holds (yes≤ (search needs)) (fails _ (no≤ (search needs)))))
-    (λ c. sym (holds (yes≤ (search needs)) (holds (yes≤ (search needs)) (fails _ (no≤ (search needs))))))
-    (λ c. sym (holds (yes≤ (search needs)) (holds (yes≤ (search needs)) (holds (yes≤ (search needs)) (tested _ _))))))
+    (λ c. sym (fails _ (no≤ (search rules))))
+    (λ c. sym (holds (yes≤ (search rules)) (fails _ (no≤ (search rules)))))
+    (λ c. sym (holds (yes≤ (search rules)) (holds (yes≤ (search rules)) (fails _ (no≤ (search rules))))))
+    (λ c. sym (holds (yes≤ (search rules)) (holds (yes≤ (search rules)) (holds (yes≤ (search rules)) (tested _ _))))))

@@ -1,18 +1,18 @@
-use Rattle.text.proofs.Prelude.{needs, ◌∙◌, came, on, off}
-use Rattle.three.specs.Three.{threeRes}
-use Rattle.date.specs.Date.{dateOf, dateIn}
-use Rattle.three.proofs.Threes.{madeBy, three-then}
+use Rattle.text.proofs.Prelude.{rules, ◌∙◌, came, on, off}
+use Rattle.three.specs.Three.{three_res}
+use Rattle.date.specs.Date.{date_of, date_in}
+use Rattle.three.proofs.Threes.{made_by, three_then}
 use Rattle.date.proofs.Date.parse_ascii.Statement.{statement}
 use Rattle.date.proofs.Date.parse_ascii.Tie as tie
 
-pub parse-ascii-spec : {M : Type 1} → statement M
-unfolding dateIn
-parse-ascii-spec =
+pub parse_ascii_spec : {M : Type 1} → statement M
+unfolding date_in
+parse_ascii_spec =
     tie.close
     (tie.spec
-    (search needs) (search needs) (search needs) (search needs)
-    (λ c. on (madeBy dateOf)
-    (came threeRes c.before.before.t.given.1 c.before.before.before.before.read-three.ensures)
-    c.within.ensures ∙ three-then dateOf _)
-    (λ c. off (madeBy dateOf) (came threeRes c.before.no.given.1 c.before.before.before.read-three.ensures)
-    ∙ three-then dateOf _))
+    (search rules) (search rules) (search rules) (search rules)
+    (λ c. on (made_by date_of)
+    (came three_res c.before.before.t.given.1 c.before.before.before.before.read-three.ensures)
+    c.within.ensures ∙ three_then date_of _)
+    (λ c. off (made_by date_of) (came three_res c.before.no.given.1 c.before.before.before.read-three.ensures)
+    ∙ three_then date_of _))

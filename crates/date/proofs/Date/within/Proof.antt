@@ -1,13 +1,13 @@
-use Rattle.text.proofs.Prelude.{needs, refl, pass, stop, yes≤, no≤, holds, fails}
-use Rattle.date.specs.Date.{dateOf}
+use Rattle.text.proofs.Prelude.{rules, refl, pass, stop, yes≤, no≤, holds, fails}
+use Rattle.date.specs.Date.{date_of}
 use Rattle.date.proofs.Date.within.Statement.{statement}
 use Rattle.date.proofs.Date.within.Tie as tie
 
-pub within-spec : {M : Type 1} → statement M
-unfolding dateOf
-within-spec =
+pub within_spec : {M : Type 1} → statement M
+unfolding date_of
+within_spec =
     tie.close
     (tie.spec
-    (λ c. pass _ (holds (yes≤ (search needs)) (yes≤ (search needs))) refl)
-    (λ c. stop _ (holds (yes≤ (search needs)) (no≤ (search needs))))
-    (λ c. stop _ (fails _ (no≤ (search needs)))))
+    (λ c. pass _ (holds (yes≤ (search rules)) (yes≤ (search rules))) refl)
+    (λ c. stop _ (holds (yes≤ (search rules)) (no≤ (search rules))))
+    (λ c. stop _ (fails _ (no≤ (search rules)))))

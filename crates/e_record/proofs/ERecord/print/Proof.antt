@@ -1,51 +1,51 @@
-use Rattle.text.specs.Prelude.{ℕ, ◌≡◌, List, now, ok, no}
-use Rattle.text.proofs.Prelude.{needs, refl, came, on, off}
-use Rattle.part.specs.Part.{findPart, findMaybe, partText, maybeText, text_of, foundRes}
-use Rattle.part.proofs.Parts.{text-found}
+use Rattle.text.specs.Prelude.{ℕ, ◌≡◌, List, ok, no}
+use Rattle.text.proofs.Prelude.{rules, refl, came, on, off}
+use Rattle.part.specs.Part.{find_part, find_maybe, part_text, maybe_text, text_of, found_res}
+use Rattle.part.proofs.Parts.{text_found}
 use Rattle.print.proofs.Printing.{refused, no_room, written}
-use Rattle.e_record.specs.ERecord.{ePiece, eText}
+use Rattle.e_record.specs.ERecord.{e_piece, e_text}
 use Rattle.e_record.specs.declared.ERecord.{ERecord}
 use Rattle.e_record.proofs.ERecord.print.Statement.{statement}
 use Rattle.e_record.proofs.ERecord.print.Tie as tie
 
 abbrev line : tie.Start → List ℕ
-line b = now b.args.line
+line b = b.args.line.now
 
 abbrev self : tie.Start → ERecord
 self b = b.args.self
 
 mnemonic : (c : tie.After--mnemonic)
-    → ok c.-mnemonic.given.0.0 ≡ findPart (self (search needs)).mnemonic (line (search needs))
-mnemonic c = came foundRes c.-mnemonic.given.1 c.before.before.find.ensures
+    → ok c.-mnemonic.given.0.0 ≡ find_part (self (search rules)).mnemonic (line (search rules))
+mnemonic c = came found_res c.-mnemonic.given.1 c.before.before.find.ensures
 
-no-mnemonic : (c : tie.After-no-mnemonic)
-    → no c.no-mnemonic.given.0.0 ≡ findPart (self (search needs)).mnemonic (line (search needs))
-no-mnemonic c = came foundRes c.no-mnemonic.given.1 c.before.before.find.ensures
+no_mnemonic : (c : tie.After-no-mnemonic)
+    → no c.no-mnemonic.given.0.0 ≡ find_part (self (search rules)).mnemonic (line (search rules))
+no_mnemonic c = came found_res c.no-mnemonic.given.1 c.before.before.find.ensures
 
-text : (c : tie.After--text) → ok c.-text.given.0.0 ≡ findMaybe (self (search needs)).text (line (search needs))
-text c = came foundRes c.-text.given.1 c.before.before.find2.ensures
+text : (c : tie.After--text) → ok c.-text.given.0.0 ≡ find_maybe (self (search rules)).text (line (search rules))
+text c = came found_res c.-text.given.1 c.before.before.find2.ensures
 
 no_text : (c : tie.After-no-text)
-    → no c.no_text.given.0.0 ≡ findMaybe (self (search needs)).text (line (search needs))
-no_text c = came foundRes c.no_text.given.1 c.before.before.find2.ensures
+    → no c.no_text.given.0.0 ≡ find_maybe (self (search rules)).text (line (search rules))
+no_text c = came found_res c.no_text.given.1 c.before.before.find2.ensures
 
 -- both parts are found, so there is a text
 both : (c : tie.After--text)
-    → ok (ePiece (self (search needs)) (line (search needs))) ≡ eText (self (search needs)) (line (search needs))
-unfolding eText partText maybeText
-both c = on _ (text-found _ (mnemonic (search needs))) (on _ (text-found _ (text c)) refl)
+    → ok (e_piece (self (search rules)) (line (search rules))) ≡ e_text (self (search rules)) (line (search rules))
+unfolding e_text part_text maybe_text
+both c = on _ (text_found _ (mnemonic (search rules))) (on _ (text_found _ (text c)) refl)
 
-pub print-spec : {M : Type 1} → statement M
-unfolding eText partText maybeText text_of
-print-spec =
+pub print_spec : {M : Type 1} → statement M
+unfolding e_text part_text maybe_text text_of
+print_spec =
     tie.close
     (tie.spec
-    (search needs) (search needs) (search needs) (search needs) (search needs) (search needs) (search needs)
-    (search needs)
-    (λ c. no_room (both (search needs)) c.before.before.put-piece.ensures (search needs))
-    (search needs)
-    (λ c. refused _ (off _ (off _ (no-mnemonic (search needs)))))
-    (λ c. refused _ (on _ (text-found _ (mnemonic (search needs))) (off _ (off _ (no_text (search needs))))))
-    (search needs)
-    (λ c. written (both (search needs)) c.before.before.before.before.before.before.put-piece.ensures
-    (search needs) c.before.before.put-piece2.ensures))
+    (search rules) (search rules) (search rules) (search rules) (search rules) (search rules) (search rules)
+    (search rules)
+    (λ c. no_room (both (search rules)) c.before.before.put-piece.ensures (search rules))
+    (search rules)
+    (λ c. refused _ (off _ (off _ (no_mnemonic (search rules)))))
+    (λ c. refused _ (on _ (text_found _ (mnemonic (search rules))) (off _ (off _ (no_text (search rules))))))
+    (search rules)
+    (λ c. written (both (search rules)) c.before.before.before.before.before.before.put-piece.ensures
+    (search rules) c.before.before.put-piece2.ensures))

@@ -1,22 +1,22 @@
-use Rattle.text.specs.Prelude.{ℕ, ◌+◌, ◌-◌, ◌≤◌, ◌≡◌, List, now, ok, no}
-use Rattle.text.proofs.Prelude.{needs, arith, ap, came, on, off, pass, stop, yes≤, no≤}
-use Rattle.part.specs.Part.{findPart, foundRes}
+use Rattle.text.specs.Prelude.{ℕ, ◌+◌, ◌-◌, ◌≤◌, ◌≡◌, List, ok, no}
+use Rattle.text.proofs.Prelude.{rules, arith, ap, came, on, off, pass, stop, yes≤, no≤}
+use Rattle.part.specs.Part.{find_part, found_res}
 use Rattle.part.specs.declared.Part.{Part}
 use Rattle.part.proofs.Parts.{inside}
-use Rattle.extension.specs.Value.{findValue}
+use Rattle.extension.specs.Value.{find_value}
 use Rattle.extension.proofs.Extension.find.Statement.{statement}
 use Rattle.extension.proofs.Extension.find.Tie as tie
 
 abbrev line : tie.Start → List ℕ
-line b = now b.args.line
+line b = b.args.line.now
 
-rest : (c : tie.After-inside) → ok c.inside.given.0.0 ≡ findPart c.before.before.before.before.args.rest
-    (line (search needs))
-rest c = came foundRes c.inside.given.1 c.before.before.find.ensures
+rest : (c : tie.After-inside) → ok c.inside.given.0.0 ≡ find_part c.before.before.before.before.args.rest
+    (line (search rules))
+rest c = came found_res c.inside.given.1 c.before.before.find.ensures
 
-no-rest : (c : tie.After-no-rest) → no c.no-rest.given.0.0 ≡ findPart
-    c.before.before.before.before.args.rest (line (search needs))
-no-rest c = came foundRes c.no-rest.given.1 c.before.before.find.ensures
+no_rest : (c : tie.After-no-rest) → no c.no-rest.given.0.0 ≡ find_part
+    c.before.before.before.before.args.rest (line (search rules))
+no_rest c = came found_res c.no-rest.given.1 c.before.before.find.ensures
 
 -- as the code works it out
 worked : (a base first last : ℕ) → base + 1 ≤ first → first ≤ last
@@ -28,21 +28,21 @@ worked a base first last p q =
     rw (s, l)
 
 pub find_spec : {M : Type 1} → statement M
-unfolding findValue
+unfolding find_value
 find_spec =
     tie.close
     (tie.spec
-    (search needs) (search needs) (search needs) (search needs) (search needs)
-    (λ c. on _ (rest (search needs)) (stop _ (no≤ (omega arith))))
-    (λ c. on _ (rest (search needs)) (pass _ (yes≤ (omega arith)) (stop _ (no≤ (search needs)))))
-    (search needs)
-    (λ c. on _ (rest (search needs))
-    (pass _ (yes≤ (omega arith)) (pass _ (yes≤ (search needs)) (stop _ (no≤ (search needs))))))
-    (search needs) (search needs)
-    (λ c. let i = inside _ _ (rest (search needs)) in omega (arith, i.ends))
-    (search needs)
-    (λ c. off _ (no-rest (search needs)))
-    (λ c. on _ (rest (search needs))
+    (search rules) (search rules) (search rules) (search rules) (search rules)
+    (λ c. on _ (rest (search rules)) (stop _ (no≤ (omega arith))))
+    (λ c. on _ (rest (search rules)) (pass _ (yes≤ (omega arith)) (stop _ (no≤ (search rules)))))
+    (search rules)
+    (λ c. on _ (rest (search rules))
+    (pass _ (yes≤ (omega arith)) (pass _ (yes≤ (search rules)) (stop _ (no≤ (search rules))))))
+    (search rules) (search rules)
+    (λ c. let i = inside _ _ (rest (search rules)) in omega (arith, i.ends))
+    (search rules)
+    (λ c. off _ (no_rest (search rules)))
+    (λ c. on _ (rest (search rules))
     (pass _ (yes≤ (omega arith))
-    (pass _ (yes≤ (search needs))
-    (pass _ (yes≤ (search needs)) (ap ok (worked _ _ _ _ (omega arith) (search needs))))))))
+    (pass _ (yes≤ (search rules))
+    (pass _ (yes≤ (search rules)) (ap ok (worked _ _ _ _ (omega arith) (search rules))))))))

@@ -1,8 +1,8 @@
-use Rattle.text.proofs.Prelude.{needs}
-use Rattle.f_record.specs.FRecord.{fBook}
+use Rattle.text.proofs.Prelude.{rules}
+use Rattle.f_record.specs.FRecord.{f_book}
 use Rattle.f_record.proofs.FRecord.by_the_book.Statement.{statement}
 use Rattle.f_record.proofs.FRecord.by_the_book.Tie as tie
 
-pub by-the-book-spec : {M : Type 1} → statement M
-unfolding fBook
-by-the-book-spec = tie.close (tie.spec (search needs) (λ c. c.by-the-book.ensures))
+pub by_the_book_spec : {M : Type 1} → statement M
+unfolding f_book
+by_the_book_spec = tie.close (tie.spec (search rules) (λ c. c.by-the-book.ensures))

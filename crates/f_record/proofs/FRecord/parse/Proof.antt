@@ -1,69 +1,69 @@
-use Rattle.text.specs.Prelude.{ℕ, ◌≡◌, true, List, length, drop, now, Res, ok, no, cut, columns}
-use Rattle.text.proofs.Prelude.{needs, ◌∙◌, length-drop, came, on, off, found_in, refused-in, pass, stop}
-use Rattle.text.proofs.Prelude.{yes≤, no≤, yes=, no=, so-true, so_false}
-use Rattle.field.specs.Field.{isAscii, ascii, asciiIn}
-use Rattle.field.proofs.Fields.{cut-of-ascii}
-use Rattle.time.specs.Time.{readTime, timeIn, timeRes}
-use Rattle.satellites.specs.Satellites.{inPairs, readSatellites, satellitesRes}
-use Rattle.f_record.specs.FRecord.{readHeard, readF}
+use Rattle.text.specs.Prelude.{ℕ, ◌≡◌, true, List, length, drop, Res, ok, no, cut, columns}
+use Rattle.text.proofs.Prelude.{rules, ◌∙◌, length-drop, came, on, off, found_in, refused_in, pass, stop}
+use Rattle.text.proofs.Prelude.{yes≤, no≤, yes=, no=, so_true, so_false}
+use Rattle.field.specs.Field.{is_ascii_of, ascii, ascii_in}
+use Rattle.field.proofs.Fields.{cut_of_ascii}
+use Rattle.time.specs.Time.{read_time_of, time_in, time_res}
+use Rattle.satellites.specs.Satellites.{in_pairs, read_satellites, satellites_res}
+use Rattle.f_record.specs.FRecord.{read_heard, read_f}
 use Rattle.f_record.specs.declared.FRecord.{FRecord}
 use Rattle.f_record.proofs.FRecord.parse.Statement.{statement}
 use Rattle.f_record.proofs.FRecord.parse.Tie as tie
 
 abbrev line : tie.Start → List ℕ
-line b = now b.args.line
+line b = b.args.line.now
 
-even : (c : tie.Else2) → inPairs (drop 7 (line (search needs))) ≡ true
-unfolding inPairs
-even c = yes= (rw (length-drop 7 _) (search needs))
+even : (c : tie.Else2) → in_pairs (drop 7 (line (search rules))) ≡ true
+unfolding in_pairs
+even c = yes= (rw (length-drop 7 _) (search rules))
 
-plain : (c : tie.Else3) → isAscii (line (search needs)) ≡ true
-plain c = so-true c.before.is_ascii.ensures c.if3.false
+plain : (c : tie.Else3) → is_ascii_of (line (search rules)) ≡ true
+plain c = so_true c.before.is_ascii.ensures c.if3.false
 
 -- past the tests the line is read by its time and its list
-in-line : (c : tie.Else3) {x : Res FRecord} → x ≡ readHeard (line (search needs)) → x ≡ readF (line (search needs))
-unfolding readF ascii asciiIn
-in-line c h = pass _ (yes≤ (search needs)) (pass _ (even (search needs)) (pass _ (plain c) h))
+in_line_lem : (c : tie.Else3) {x : Res FRecord} → x ≡ read_heard (line (search rules)) → x ≡ read_f (line (search rules))
+unfolding read_f ascii ascii_in
+in_line_lem c h = pass _ (yes≤ (search rules)) (pass _ (even (search rules)) (pass _ (plain c) h))
 
 -- in an ASCII line the field's own test says nothing
-time-read : (c : tie.After-parse-ascii) → timeRes c.parse-ascii.result ≡ readTime (cut 1 7 (line (search needs)))
-unfolding cut timeIn readTime
-time-read c = c.parse-ascii.ensures ∙ cut-of-ascii 1 7 6 _ _ (plain (search needs))
+time_read : (c : tie.After-parse-ascii) → time_res c.parse-ascii.result ≡ read_time_of (cut 1 7 (line (search rules)))
+unfolding cut time_in read_time_of
+time_read c = c.parse-ascii.ensures ∙ cut_of_ascii 1 7 6 _ _ (plain (search rules))
 
-time : (c : tie.After-time) → ok c.time.given.0.0 ≡ columns 1 7 readTime (line (search needs))
+time : (c : tie.After-time) → ok c.time.given.0.0 ≡ columns 1 7 read_time_of (line (search rules))
 unfolding columns
-time c = found_in _ (came timeRes c.time.given.1 (time-read (search needs)))
+time c = found_in _ (came time_res c.time.given.1 (time_read (search rules)))
 
-no-time : (c : tie.After-moved2) → no c.moved2.result ≡ columns 1 7 readTime (line (search needs))
+no_time : (c : tie.After-moved2) → no c.moved2.result ≡ columns 1 7 read_time_of (line (search rules))
 unfolding columns
-no-time c = refused-in _ (came timeRes c.before.before.no-time.given.1
-    (time-read (search needs))) c.moved2.ensures
+no_time c = refused_in _ (came time_res c.before.before.no-time.given.1
+    (time_read (search rules))) c.moved2.ensures
 
 heard : (c : tie.After-satellites)
-    → ok c.satellites.given.0.0 ≡ columns 7 (length (line (search needs))) readSatellites (line (search needs))
+    → ok c.satellites.given.0.0 ≡ columns 7 (length (line (search rules))) read_satellites (line (search rules))
 unfolding columns cut
-heard c = found_in _ (came satellitesRes c.satellites.given.1 c.before.before.parse.ensures)
+heard c = found_in _ (came satellites_res c.satellites.given.1 c.before.before.parse.ensures)
 
-no-list : (c : tie.After-moved)
-    → no c.moved.result ≡ columns 7 (length (line (search needs))) readSatellites (line (search needs))
+no_list : (c : tie.After-moved)
+    → no c.moved.result ≡ columns 7 (length (line (search rules))) read_satellites (line (search rules))
 unfolding columns cut
-no-list c = refused-in _ (came satellitesRes c.before.before.no-list.given.1
+no_list c = refused_in _ (came satellites_res c.before.before.no-list.given.1
     c.before.before.before.before.parse.ensures) c.moved.ensures
 
-pub parse-spec : {M : Type 1} → statement M
-unfolding readF readHeard inPairs ascii asciiIn
-parse-spec =
+pub parse_spec : {M : Type 1} → statement M
+unfolding read_f read_heard in_pairs ascii ascii_in
+parse_spec =
     tie.close
     (tie.spec
-    (λ c. stop _ (no≤ (search needs)))
-    (search needs)
-    (λ c. pass _ (yes≤ (search needs)) (stop _ (no= (rw (length-drop 7 _) (search needs)))))
-    (search needs)
-    (λ c. pass _ (yes≤ (search needs)) (pass _ (even (search needs)) (stop _ (search (so_false)))))
-    (search needs) (search needs) (search needs) (search needs) (search needs) (search needs) (search needs)
-    (search needs) (search needs) (search needs) (search needs) (search needs) (search needs) (search needs)
-    (search needs)
-    (λ c. in-line (search needs)
-    (on _ (time (search needs)) (on _ (heard (search needs)) (rw c.from-column.ensures))))
-    (λ c. in-line (search needs) (on _ (time (search needs)) (off _ (no-list (search needs)))))
-    (λ c. in-line (search needs) (off _ (no-time (search needs)))))
+    (λ c. stop _ (no≤ (search rules)))
+    (search rules)
+    (λ c. pass _ (yes≤ (search rules)) (stop _ (no= (rw (length-drop 7 _) (search rules)))))
+    (search rules)
+    (λ c. pass _ (yes≤ (search rules)) (pass _ (even (search rules)) (stop _ (search (so_false)))))
+    (search rules) (search rules) (search rules) (search rules) (search rules) (search rules) (search rules)
+    (search rules) (search rules) (search rules) (search rules) (search rules) (search rules) (search rules)
+    (search rules)
+    (λ c. in_line_lem (search rules)
+    (on _ (time (search rules)) (on _ (heard (search rules)) (rw c.from-column.ensures))))
+    (λ c. in_line_lem (search rules) (on _ (time (search rules)) (off _ (no_list (search rules)))))
+    (λ c. in_line_lem (search rules) (off _ (no_time (search rules)))))

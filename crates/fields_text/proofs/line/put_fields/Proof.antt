@@ -1,15 +1,15 @@
-use Rattle.text.proofs.Prelude.{needs}
-use Rattle.fields_text.specs.Line.{fieldsShown}
+use Rattle.text.proofs.Prelude.{rules}
+use Rattle.fields_text.specs.Line.{fields_shown}
 use Rattle.fields_text.proofs.line.put_fields.Statement.{statement}
 use Rattle.fields_text.proofs.line.put_fields.Tie as tie
 
-pub put-fields-spec : {M : Type 1} → statement M
-unfolding fieldsShown
-put-fields-spec =
+pub put_fields_spec : {M : Type 1} → statement M
+unfolding fields_shown
+put_fields_spec =
     tie.close
     (tie.spec
-    (search needs) (search needs) (search needs) (search needs)
-    (search needs)
+    (search rules) (search rules) (search rules) (search rules)
+    (search rules)
     (λ c. rw c.before.before.before.before.before.reading.given.1 c.before.before.put-seen.ensures)
-    (search needs)
+    (search rules)
     (λ c. rw c.before.before.before.before.before.reading2.given.1 c.before.before.put-place.ensures))

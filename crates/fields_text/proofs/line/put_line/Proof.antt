@@ -1,16 +1,16 @@
-use Rattle.text.proofs.Prelude.{needs}
+use Rattle.text.proofs.Prelude.{rules}
 use Rattle.put.proofs.Writing.{then}
-use Rattle.fields_text.specs.Line.{fieldsLine}
+use Rattle.fields_text.specs.Line.{fields_line}
 use Rattle.fields_text.proofs.line.put_line.Statement.{statement}
 use Rattle.fields_text.proofs.line.put_line.Tie as tie
 
 returns : tie.Need-returns
-unfolding fieldsLine
+unfolding fields_line
 returns c =
     let end = c.before.before in
     let fields = end.before.before.before.before in
     let head = fields.before.before.before.before in
     then head.put-head.ensures (then fields.put-fields.ensures end.put_byte.ensures)
 
-pub put-line-spec : {M : Type 1} → statement M
-put-line-spec = tie.close (tie.spec (search needs) (search needs) (search needs) (search needs) returns)
+pub put_line_spec : {M : Type 1} → statement M
+put_line_spec = tie.close (tie.spec (search rules) (search rules) (search rules) (search rules) returns)

@@ -1,9 +1,9 @@
-use Rattle.text.proofs.Prelude.{needs}
+use Rattle.text.proofs.Prelude.{rules}
 use Rattle.put.proofs.Writing.{then}
-use Rattle.fields_text.specs.Line.{printedShown}
+use Rattle.fields_text.specs.Line.{printed_shown}
 use Rattle.fields_text.proofs.line.put_printed.Statement.{statement}
 use Rattle.fields_text.proofs.line.put_printed.Tie as tie
 
-pub put-printed-spec : {M : Type 1} → statement M
-unfolding printedShown
-put-printed-spec = tie.close (tie.spec (search needs) (search needs) (search needs) (search needs) (λ c. search (then)))
+pub put_printed_spec : {M : Type 1} → statement M
+unfolding printed_shown
+put_printed_spec = tie.close (tie.spec (search rules) (search rules) (search rules) (search rules) (λ c. search (then)))

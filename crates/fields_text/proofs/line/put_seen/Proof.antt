@@ -1,4 +1,4 @@
-use Rattle.text.proofs.Prelude.{needs}
+use Rattle.text.proofs.Prelude.{rules}
 use Rattle.put.proofs.Writing.{then}
 use Rattle.fields_text.specs.Line.{seen}
 use Rattle.fields_text.proofs.line.put_seen.Statement.{statement}
@@ -14,5 +14,5 @@ returns c =
     rw fields.before.before.table.ensures
     at (then fields.show-record.ensures (then book.put-book.ensures printed.put-printed.ensures))
 
-pub put-seen-spec : {M : Type 1} → statement M
-put-seen-spec = tie.close (tie.spec (search needs) (search needs) (search needs) (search needs) (search needs) returns)
+pub put_seen_spec : {M : Type 1} → statement M
+put_seen_spec = tie.close (tie.spec (search rules) (search rules) (search rules) (search rules) (search rules) returns)

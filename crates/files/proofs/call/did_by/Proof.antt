@@ -4,7 +4,7 @@ use lib.Signed.{lt_z}
 use mir.Syntax.{w64}
 use mir.Val.{to_z, of_z}
 use mir.Facts.{to_z-of_z}
-use Rattle.files.proofs.Calls.{errno-is, errno-isnt, did-again, did-closed, did-failed, did_nothing, did-bytes}
+use Rattle.files.proofs.Calls.{errno_is, errno_isnt, did_again, did_closed, did_failed, did_nothing, did_bytes}
 use Rattle.files.proofs.call.did_by.Statement.{statement}
 use Rattle.files.proofs.call.did_by.Tie as tie
 
@@ -14,40 +14,40 @@ back c = to_z-of_z c.ranges.got
 below : (c : tie.Then1) → lt_z c.before.args.got (pos 0) ≡ true
 below c = rw (back c.before) at c.if1.true
 
-not-below : (c : tie.Else1) → lt_z c.before.args.got (pos 0) ≡ false
-not-below c = rw (back c.before) at c.if1.false
+not_below : (c : tie.Else1) → lt_z c.before.args.got (pos 0) ≡ false
+not_below c = rw (back c.before) at c.if1.false
 
 again : tie.Need-returns
 again c =
     let e = c.before.before.ranges.errno in
-    did-again _ _ (below c.before) (errno-is _ e (omega arith) c.if2.true)
+    did_again _ _ (below c.before) (errno_is _ e (omega arith) c.if2.true)
 
 closed : tie.Need-returns-2
 closed c =
     let first = c.before in
     let e = first.before.before.ranges.errno in
-    let not = errno-isnt _ first.if2.false in
-    did-closed _ _ (below first.before) not (errno-is _ e (omega arith) c.if3.true)
+    let not = errno_isnt _ first.if2.false in
+    did_closed _ _ (below first.before) not (errno_is _ e (omega arith) c.if3.true)
 
 failed : tie.Need-returns-3
 failed c =
     let first = c.before in
-    did-failed _ _ (below first.before) (errno-isnt _ first.if2.false) (errno-isnt _ c.if3.false)
+    did_failed _ _ (below first.before) (errno_isnt _ first.if2.false) (errno_isnt _ c.if3.false)
 
 none : tie.Need-returns-4
-none c = did_nothing _ _ (not-below c.before) c.if4.true
+none c = did_nothing _ _ (not_below c.before) c.if4.true
 
 cast : tie.Need-overflow-cast-t5
 cast c =
     let start = c.before.before in
     let got = start.args.got in
-    let some = did-bytes got start.args.errno start.ranges.got (not-below c.before) c.if4.false in
+    let some = did_bytes got start.args.errno start.ranges.got (not_below c.before) c.if4.false in
     rw (back start) (some.0, some.1)
 
 bytes : tie.Need-returns-5
 bytes c =
     let start = c.before.before in
-    rw (back start) (did-bytes _ _ start.ranges.got (not-below c.before) c.if4.false).2
+    rw (back start) (did_bytes _ _ start.ranges.got (not_below c.before) c.if4.false).2
 
-pub did-by-spec : {M : Type 1} → statement M
-did-by-spec = tie.close (tie.spec again closed failed none cast bytes)
+pub did_by_spec : {M : Type 1} → statement M
+did_by_spec = tie.close (tie.spec again closed failed none cast bytes)

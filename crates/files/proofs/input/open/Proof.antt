@@ -1,4 +1,4 @@
-use Rattle.text.proofs.Prelude.{needs, refl, sym, ◌∙◌, never}
+use Rattle.text.proofs.Prelude.{rules, refl, sym, ◌∙◌, never}
 use Rattle.files.proofs.input.open.Statement.{statement}
 use Rattle.files.proofs.input.open.Tie as tie
 
@@ -8,4 +8,4 @@ named c h =
     never h (sym test.before.is-dash.ensures ∙ test.if1.false)
 
 pub open_spec : {M : Type 1} → statement M
-open_spec = tie.close (tie.spec (search needs) (λ c h. refl) (search needs) named)
+open_spec = tie.close (tie.spec (search rules) (λ c h. refl) (search rules) named)

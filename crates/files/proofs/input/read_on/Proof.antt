@@ -1,6 +1,6 @@
-use Rattle.text.specs.Prelude.{ℕ, ◌+◌, ◌-◌, ◌≤◌, length, now, largest}
-use Rattle.text.proofs.Prelude.{needs, arith}
-use Rattle.files.proofs.Filling.{Filling, at-start, full, ended, failed, next}
+use Rattle.text.specs.Prelude.{ℕ, ◌+◌, ◌-◌, ◌≤◌, length, largest}
+use Rattle.text.proofs.Prelude.{rules, arith}
+use Rattle.files.proofs.Filling.{Filling, at_start, full, ended, failed, next}
 use Rattle.files.proofs.input.read_on.Statement.{statement}
 use Rattle.files.proofs.input.read_on.Tie as tie
 
@@ -13,14 +13,14 @@ decreases-loop fd buf₀ from at₀ turns₀ buf at turns = largest - turns
 -- after a call
 called : (c : tie.After-read-some invariant-loop decreases-loop) (to : ℕ) → c.before.before.before.before.loop.at ≤ to →
     let start = c.before.before.before.before.before.before in
-    Filling start.args.from (now start.args.buf) c.read_some.new.1.0 to
+    Filling start.args.from (start.args.buf.now) c.read_some.new.1.0 to
 called c to h = next c.before.before.before.before.loop.invariant to c.read_some.ensures h
 
 -- the place stays, and is inside
 stayed : (c : tie.After-read-some invariant-loop decreases-loop) →
     let l = c.before.before.before.before.loop in
     let start = c.before.before.before.before.before.before in
-    Filling start.args.from (now start.args.buf) c.read_some.new.1.0 l.at
+    Filling start.args.from (start.args.buf.now) c.read_some.new.1.0 l.at
 stayed c = called c _ (omega arith)
 
 -- bytes that came have room
@@ -29,37 +29,37 @@ room : (c : tie.After-known-told invariant-loop decreases-loop) →
     l.at + c.before.n.given.0.0 ≤ length l.buf
 room c = rw c.before.n.given.1 at c.before.before.before.before.before.read_some.ensures.room
 
-at-end : tie.Need-returns-2 invariant-loop decreases-loop
-at-end c =
+at_end : tie.Need-returns-2 invariant-loop decreases-loop
+at_end c =
     let read = c.before.before.before.before in
     let test = read.before.before.before in
     ended (stayed read) (omega (arith, test.loop-test.true, read.read_some.ensures.long))
 
-pub read-on-spec : {M : Type 1} → statement M
-read-on-spec =
+pub read_on_spec : {M : Type 1} → statement M
+read_on_spec =
     tie.close
     (tie.spec
     invariant-loop
     decreases-loop
-    (λ c. at-start)
+    (λ c. at_start)
     (λ c. c.before.before.loop.invariant.long)
     (λ c. failed c.before.before.loop.invariant)
-    (search needs)
+    (search rules)
     (λ c κs. omega (arith, c.before.before.loop-test.true))
-    (search needs)
+    (search rules)
     (λ c. omega (arith, room c))
     (λ c. omega (arith, c.before.before.before.before.before.before.before.if1.false))
     (λ c. called c.before.before.before.before.before _ (omega arith))
-    (search needs)
+    (search rules)
     (λ c. (stayed c.before.before.before.before).long)
-    at-end
-    (search needs)
+    at_end
+    (search rules)
     (λ c. omega (arith, c.before.before.before.before.before.before.if1.false))
     (λ c. stayed c.before.before.before.before)
-    (search needs)
+    (search rules)
     (λ c. (stayed c.before.before.before.before).long)
     (λ c. failed (stayed c.before.before.before.before))
-    (search needs)
+    (search rules)
     (λ c. (stayed c.before.before.before.before).long)
     (λ c. failed (stayed c.before.before.before.before))
     (λ c. c.before.loop.invariant.long)

@@ -1,5 +1,5 @@
 use Rattle.text.specs.Prelude.{true, false, pick}
-use Rattle.text.proofs.Prelude.{needs, refl}
+use Rattle.text.proofs.Prelude.{rules, refl}
 use Rattle.files.proofs.outcome.write_text.Statement.{statement}
 use Rattle.files.proofs.outcome.write_text.Tie as tie
 
@@ -11,11 +11,11 @@ other : tie.Need-returns-2
 unfolding pick
 other c = record { terminal = false; content = refl }
 
-pub write-text-spec : {M : Type 1} → statement M
-write-text-spec =
+pub write_text_spec : {M : Type 1} → statement M
+write_text_spec =
     tie.close
     (tie.spec
-    (search needs) (search needs) (search needs) (search needs) (search needs)
+    (search rules) (search rules) (search rules) (search rules) (search rules)
     terminal
-    (search needs) (search needs) (search needs)
+    (search rules) (search rules) (search rules)
     other)

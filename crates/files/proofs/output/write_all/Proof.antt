@@ -1,5 +1,5 @@
-use Rattle.text.specs.Prelude.{◌+◌, ◌-◌, ◌≤◌, ◌≡◌, length, now, largest}
-use Rattle.text.proofs.Prelude.{needs, arith, refl}
+use Rattle.text.specs.Prelude.{◌+◌, ◌-◌, ◌≤◌, ◌≡◌, length, largest}
+use Rattle.text.proofs.Prelude.{rules, arith, refl}
 use Rattle.files.specs.declared.{output.Written.Written, output.Written.TheVariants.All}
 use Rattle.files.proofs.output.write_all.Statement.{statement}
 use Rattle.files.proofs.output.write_all.Tie as tie
@@ -13,35 +13,35 @@ decreases-loop fd text at₀ turns₀ at turns = largest - turns
 -- bytes that went are of the text
 inside : (c : tie.After-known-told invariant-loop decreases-loop) →
     let loop = c.before.before.before.before.before.before in
-    loop.loop.at + c.before.n.given.0.0 ≤ length (now loop.before.before.args.text)
+    loop.loop.at + c.before.n.given.0.0 ≤ length (loop.before.before.args.text.now)
 inside c = rw c.before.n.given.1 at c.before.before.before.write-some.ensures
 
 -- where a byte is left there is one
 some : (c : tie.In-loop invariant-loop decreases-loop) {r : Written} →
-    length (now c.before.before.before.args.text) ≡ 0 → r ≡ All
+    length (c.before.before.before.args.text.now) ≡ 0 → r ≡ All
 some c e = absurd (omega (arith, c.loop-test.true, e))
 
-pub write-all-spec : {M : Type 1} → statement M
-write-all-spec =
+pub write_all_spec : {M : Type 1} → statement M
+write_all_spec =
     tie.close
     (tie.spec
     invariant-loop
     decreases-loop
-    (search needs)
+    (search rules)
     (λ c. some c.before)
-    (search needs)
+    (search rules)
     (λ c κs. omega (arith, c.before.loop-test.true))
-    (search needs)
+    (search rules)
     (λ c. omega (arith, inside c))
     (λ c. omega (arith, c.before.before.before.before.if1.false))
     inside
-    (search needs)
+    (search rules)
     (λ c. some c.before.before.before.before)
-    (search needs)
+    (search rules)
     (λ c. omega (arith, c.before.before.before.if1.false))
     (λ c. c.before.before.before.before.before.loop.invariant)
-    (search needs)
+    (search rules)
     (λ c. some c.before.before.before.before)
-    (search needs)
+    (search rules)
     (λ c. some c.before.before.before.before)
     (λ c e. refl))

@@ -24,5 +24,5 @@ printable c =
     let f = holds (yes≤ c.before.if2.false) (yes≤ c.if3.false) in
     first _ (sym (second _ (no= c.before.before.if1.false) (sym f))) refl
 
-pub visible-spec : {M : Type 1} → statement M
-visible-spec = tie.close (tie.spec lf below above printable)
+pub visible_spec : {M : Type 1} → statement M
+visible_spec = tie.close (tie.spec lf below above printable)

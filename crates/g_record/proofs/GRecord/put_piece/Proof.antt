@@ -1,9 +1,9 @@
-use Rattle.text.proofs.Prelude.{needs}
+use Rattle.text.proofs.Prelude.{rules}
 use Rattle.put.proofs.Writing.{then}
-use Rattle.g_record.specs.GRecord.{gBody}
+use Rattle.g_record.specs.GRecord.{g_body}
 use Rattle.g_record.proofs.GRecord.put_piece.Statement.{statement}
 use Rattle.g_record.proofs.GRecord.put_piece.Tie as tie
 
-pub put-piece-spec : {M : Type 1} → statement M
-unfolding gBody
-put-piece-spec = tie.close (tie.spec (search needs) (search needs) (search needs) (λ c. search (then)))
+pub put_piece_spec : {M : Type 1} → statement M
+unfolding g_body
+put_piece_spec = tie.close (tie.spec (search rules) (search rules) (search rules) (λ c. search (then)))

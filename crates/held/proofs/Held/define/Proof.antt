@@ -1,7 +1,7 @@
 use Rattle.text.specs.Prelude.{◌≡◌, Res, ok}
-use Rattle.text.proofs.Prelude.{needs, sym, ap, on, off, pass, stop, yes≤, no≤}
+use Rattle.text.proofs.Prelude.{rules, sym, ap, on, off, pass, stop, yes≤, no≤}
 use Rattle.table.specs.declared.Table.{Table}
-use Rattle.held.specs.Held.{inForce, define}
+use Rattle.held.specs.Held.{in_force, define}
 use Rattle.held.specs.declared.{Slot.Slot, Held.Held}
 use Rattle.held.proofs.Held.define.Statement.{statement}
 use Rattle.held.proofs.Held.define.Tie as tie
@@ -10,23 +10,23 @@ abbrev self : tie.Start → Held
 self b = b.args.self
 
 -- what a slot says of the table
-by-slot : (h : Held) {s : Slot} → h.slot ≡ s → inForce s h.table ≡ inForce h.slot h.table
-by-slot h e = ap (λ s. inForce s h.table) (sym e)
+by_slot : (h : Held) {s : Slot} → h.slot ≡ s → in_force s h.table ≡ in_force h.slot h.table
+by_slot h e = ap (λ s. in_force s h.table) (sym e)
 
 -- the table is in force
 set : (c : tie.After-enum-told3) →
-    ok (self (search needs)).table ≡ inForce (self (search needs)).slot (self (search needs)).table
-unfolding inForce
-set c = by-slot (self (search needs)) c.enum-told3.given.1
+    ok (self (search rules)).table ≡ in_force (self (search rules)).slot (self (search rules)).table
+unfolding in_force
+set c = by_slot (self (search rules)) c.enum-told3.given.1
 
-pub define-spec : {M : Type 1} → statement M
-unfolding define inForce
-define-spec =
+pub define_spec : {M : Type 1} → statement M
+unfolding define in_force
+define_spec =
     tie.close
     (tie.spec
-    (search needs) (search needs) (search needs)
-    (λ c. on _ (set (search needs)) (stop _ (no≤ (search needs))))
-    (search needs)
-    (λ c. off _ (by-slot (self (search needs)) c.enum_told.given.1))
-    (λ c. off _ (by-slot (self (search needs)) c.enum-told2.given.1))
-    (λ c. on _ (set (search needs)) (pass _ (yes≤ (search needs)) c.first-named.ensures)))
+    (search rules) (search rules) (search rules)
+    (λ c. on _ (set (search rules)) (stop _ (no≤ (search rules))))
+    (search rules)
+    (λ c. off _ (by_slot (self (search rules)) c.enum_told.given.1))
+    (λ c. off _ (by_slot (self (search rules)) c.enum-told2.given.1))
+    (λ c. on _ (set (search rules)) (pass _ (yes≤ (search rules)) c.first-named.ensures)))

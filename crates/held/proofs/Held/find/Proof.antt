@@ -1,15 +1,15 @@
-use Rattle.text.proofs.Prelude.{needs, came, on, off}
-use Rattle.extension.specs.Extension.{extensionRes}
-use Rattle.held.specs.Held.{lookUp}
+use Rattle.text.proofs.Prelude.{rules, came, on, off}
+use Rattle.extension.specs.Extension.{extension_res}
+use Rattle.held.specs.Held.{look_up}
 use Rattle.held.proofs.Held.find.Statement.{statement}
 use Rattle.held.proofs.Held.find.Tie as tie
 
 pub find_spec : {M : Type 1} → statement M
-unfolding lookUp
+unfolding look_up
 find_spec =
     tie.close
     (tie.spec
-    (search needs) (search needs) (search needs) (search needs)
-    (λ c. on _ (came extensionRes c.before.before.extension.given.1
+    (search rules) (search rules) (search rules) (search rules)
+    (λ c. on _ (came extension_res c.before.before.extension.given.1
     c.before.before.before.before.define.ensures) c.find.ensures)
-    (λ c. off _ (came extensionRes c.before.no-definition.given.1 c.before.before.before.define.ensures)))
+    (λ c. off _ (came extension_res c.before.no-definition.given.1 c.before.before.before.define.ensures)))

@@ -1,22 +1,22 @@
 use Rattle.text.specs.Prelude.{bind}
-use Rattle.text.proofs.Prelude.{needs, refl, sym, came}
+use Rattle.text.proofs.Prelude.{rules, refl, sym, came}
 use Rattle.part.specs.Part.{shown, bytes_of}
-use Rattle.extension.specs.Extension.{extensionRes}
-use Rattle.held.specs.Held.{lookUp}
+use Rattle.extension.specs.Extension.{extension_res}
+use Rattle.held.specs.Held.{look_up}
 use Rattle.held.proofs.Held.get.Statement.{statement}
 use Rattle.held.proofs.Held.get.Tie as tie
 
 found : tie.Need-returns
-unfolding lookUp bind
-found c = rw (sym (came extensionRes c.before.before.extension.given.1
+unfolding look_up bind
+found c = rw (sym (came extension_res c.before.before.extension.given.1
     c.before.before.before.before.define.ensures)) c.get-extension.ensures
 
 refused : tie.Need-returns-2
-unfolding lookUp bind shown bytes_of
-refused c = rw (sym (came extensionRes c.before.before.-no.given.1
+unfolding look_up bind shown bytes_of
+refused c = rw (sym (came extension_res c.before.before.-no.given.1
     c.before.before.before.before.define.ensures)) (record { bytes = refl; lies = refl })
 
 pub get_spec : {M : Type 1} → statement M
 get_spec =
-    tie.close (tie.spec (search needs) (search needs) (search needs) (search needs) (search needs) (search needs)
-    (search needs) found refused)
+    tie.close (tie.spec (search rules) (search rules) (search rules) (search rules) (search rules) (search rules)
+    (search rules) found refused)

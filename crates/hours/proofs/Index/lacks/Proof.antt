@@ -1,22 +1,22 @@
-use Rattle.text.proofs.Prelude.{needs, sym, ap, ◌∙◌, yes≤, no≤, holds, fails}
-use Rattle.hours.specs.Hours.{isNowhere, lacks}
+use Rattle.text.proofs.Prelude.{rules, sym, ap, ◌∙◌, yes≤, no≤, holds, fails}
+use Rattle.hours.specs.Hours.{is_nowhere, lacks}
 use Rattle.hours.proofs.Index.lacks.Statement.{statement}
 use Rattle.hours.proofs.Index.lacks.Tie as tie
 
 free : tie.Need-returns
-unfolding lacks isNowhere
+unfolding lacks is_nowhere
 free c =
     let held = c.before.before.first-in in
-    sym (holds (yes≤ (search needs)) (ap isNowhere (sym held.ensures ∙ c.enum_told.given.1)))
+    sym (holds (yes≤ (search rules)) (ap is_nowhere (sym held.ensures ∙ c.enum_told.given.1)))
 
 taken : tie.Need-returns-2
-unfolding lacks isNowhere
+unfolding lacks is_nowhere
 taken c =
     let held = c.before.before.first-in in
-    sym (holds (yes≤ (search needs)) (ap isNowhere (sym held.ensures ∙ c.enum-told2.given.1)))
+    sym (holds (yes≤ (search rules)) (ap is_nowhere (sym held.ensures ∙ c.enum-told2.given.1)))
 
-pub lacks-spec : {M : Type 1} → statement M
+pub lacks_spec : {M : Type 1} → statement M
 unfolding lacks
-lacks-spec =
+lacks_spec =
     tie.close
-    (tie.spec (search needs) (search needs) (search needs) free taken (λ c. sym (fails _ (no≤ (search needs)))))
+    (tie.spec (search rules) (search rules) (search rules) free taken (λ c. sym (fails _ (no≤ (search rules)))))

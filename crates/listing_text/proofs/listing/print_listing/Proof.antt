@@ -1,5 +1,5 @@
-use Rattle.text.specs.Prelude.{now}
-use Rattle.text.proofs.Prelude.{needs, arith, refl, sym, ◌∙◌, is≤}
+
+use Rattle.text.proofs.Prelude.{rules, arith, refl, sym, ◌∙◌, is≤}
 use Rattle.print.proofs.Printing.{no_room, written}
 use Rattle.listing_text.proofs.Room.{has_room}
 use Rattle.listing_text.proofs.listing.print_listing.Statement.{statement}
@@ -15,7 +15,7 @@ ample c =
     written refl w (omega (
       arith,
       w.next,
-      has_room (now test.before.before.before.before.args.log)
+      has_room (test.before.before.before.before.args.log.now)
           (omega arith),
       room,
     )) w
@@ -29,7 +29,7 @@ tried c =
     let test = put.before.before in
     written refl test.before.before.put-listing2.ensures test.if2.false put.put-listing3.ensures
 
-pub print-listing-spec : {M : Type 1} → statement M
-print-listing-spec =
-    tie.close (tie.spec (search needs) (search needs) (search needs) ample (search needs) (search needs) full
-    (search needs) (search needs) tried)
+pub print_listing_spec : {M : Type 1} → statement M
+print_listing_spec =
+    tie.close (tie.spec (search rules) (search rules) (search rules) ample (search rules) (search rules) full
+    (search rules) (search rules) tried)

@@ -1,8 +1,8 @@
 use Rattle.text.specs.Prelude.{◌-◌, length}
-use Rattle.text.proofs.Prelude.{needs, arith}
-use Rattle.put.proofs.Writing.{wrote-length}
-use Rattle.walk.proofs.Turns.{less-left}
-use Rattle.listing_text.proofs.Telling.{Telling, at-start, at-end, line}
+use Rattle.text.proofs.Prelude.{rules, arith}
+use Rattle.put.proofs.Writing.{wrote_length}
+use Rattle.walk.proofs.Turns.{less_left}
+use Rattle.listing_text.proofs.Telling.{Telling, at_start, at_end, line}
 use Rattle.listing_text.proofs.listing.put_listing.Statement.{statement}
 use Rattle.listing_text.proofs.listing.put_listing.Tie as tie
 
@@ -16,7 +16,7 @@ loop-less : tie.Need-loop-smaller invariant-loop decreases-loop
 loop-less c =
     let read = c.before.before.before.before.before.before.before in
     let test = read.before in
-    less-left test.loop-test.true test.before.loop.invariant.reached read.read_at.ensures
+    less_left test.loop-test.true test.before.loop.invariant.reached read.read_at.ensures
 
 loop-again : tie.Need-loop-preserved invariant-loop decreases-loop
 loop-again c =
@@ -32,19 +32,19 @@ returns : tie.Need-returns invariant-loop decreases-loop
 returns c =
     let put = c.before.before in
     let test = put.before.before in
-    at-end test.before.loop.invariant test.loop-test.false put.put.ensures
+    at_end test.before.loop.invariant test.loop-test.false put.put.ensures
 
-pub put-listing-spec : {M : Type 1} → statement M
-put-listing-spec =
+pub put_listing_spec : {M : Type 1} → statement M
+put_listing_spec =
     tie.close
     (tie.spec
     invariant-loop
     decreases-loop
-    (search needs)
-    (λ c. rw c.new.ensures (at-start _ _ _ (omega arith) (omega arith) (omega arith)))
-    (search needs) (search needs) (search needs) (search needs)
+    (search rules)
+    (λ c. rw c.new.ensures (at_start _ _ _ (omega arith) (omega arith) (omega arith)))
+    (search rules) (search rules) (search rules) (search rules)
     loop-less
     loop-again
-    (search needs)
-    (λ c. wrote-length (returns c))
+    (search rules)
+    (λ c. wrote_length (returns c))
     returns)

@@ -1,9 +1,9 @@
-use Rattle.text.proofs.Prelude.{needs}
+use Rattle.text.proofs.Prelude.{rules}
 use Rattle.put.proofs.Writing.{then}
-use Rattle.piece_text.specs.Piece.{byteShown}
+use Rattle.piece_text.specs.Piece.{byte_shown}
 use Rattle.piece_text.proofs.piece.show_byte.Statement.{statement}
 use Rattle.piece_text.proofs.piece.show_byte.Tie as tie
 
-pub show-byte-spec : {M : Type 1} → statement M
-unfolding byteShown
-show-byte-spec = tie.close (tie.spec (search needs) (search needs) (search needs) (λ c. search (then)))
+pub show_byte_spec : {M : Type 1} → statement M
+unfolding byte_shown
+show_byte_spec = tie.close (tie.spec (search rules) (search rules) (search rules) (λ c. search (then)))

@@ -1,8 +1,8 @@
-use Rattle.text.proofs.Prelude.{needs}
-use Rattle.piece_text.specs.Piece.{dateShown}
+use Rattle.text.proofs.Prelude.{rules}
+use Rattle.piece_text.specs.Piece.{date_shown}
 use Rattle.piece_text.proofs.piece.show_date.Statement.{statement}
 use Rattle.piece_text.proofs.piece.show_date.Tie as tie
 
-pub show-date-spec : {M : Type 1} → statement M
-unfolding dateShown
-show-date-spec = tie.close (tie.spec (search needs) (search needs) (λ c. c.before.before.show-three.ensures))
+pub show_date_spec : {M : Type 1} → statement M
+unfolding date_shown
+show_date_spec = tie.close (tie.spec (search rules) (search rules) (λ c. c.before.before.show-three.ensures))

@@ -1,9 +1,9 @@
-use Rattle.text.proofs.Prelude.{needs}
+use Rattle.text.proofs.Prelude.{rules}
 use Rattle.put.proofs.Writing.{then}
-use Rattle.piece_text.specs.Piece.{partShown}
+use Rattle.piece_text.specs.Piece.{part_shown}
 use Rattle.piece_text.proofs.piece.show_part.Statement.{statement}
 use Rattle.piece_text.proofs.piece.show_part.Tie as tie
 
-pub show-part-spec : {M : Type 1} → statement M
-unfolding partShown
-show-part-spec = tie.close (tie.spec (search needs) (search needs) (search needs) (λ c. search (then)))
+pub show_part_spec : {M : Type 1} → statement M
+unfolding part_shown
+show_part_spec = tie.close (tie.spec (search rules) (search rules) (search rules) (λ c. search (then)))

@@ -1,9 +1,9 @@
-use Rattle.text.proofs.Prelude.{needs}
+use Rattle.text.proofs.Prelude.{rules}
 use Rattle.put.proofs.Writing.{then}
-use Rattle.piece_text.specs.Piece.{positionShown}
+use Rattle.piece_text.specs.Piece.{position_shown}
 use Rattle.piece_text.proofs.piece.show_position.Statement.{statement}
 use Rattle.piece_text.proofs.piece.show_position.Tie as tie
 
-pub show-position-spec : {M : Type 1} → statement M
-unfolding positionShown
-show-position-spec = tie.close (tie.spec (search needs) (search needs) (search needs) (λ c. search (then)))
+pub show_position_spec : {M : Type 1} → statement M
+unfolding position_shown
+show_position_spec = tie.close (tie.spec (search rules) (search rules) (search rules) (λ c. search (then)))

@@ -1,9 +1,9 @@
-use Rattle.text.proofs.Prelude.{needs}
+use Rattle.text.proofs.Prelude.{rules}
 use Rattle.put.proofs.Writing.{then}
-use Rattle.piece_text.specs.Piece.{threeShown}
+use Rattle.piece_text.specs.Piece.{three_shown}
 use Rattle.piece_text.proofs.piece.show_three.Statement.{statement}
 use Rattle.piece_text.proofs.piece.show_three.Tie as tie
 
-pub show-three-spec : {M : Type 1} → statement M
-unfolding threeShown
-show-three-spec = tie.close (tie.spec (search needs) (search needs) (search needs) (λ c. search (then)))
+pub show_three_spec : {M : Type 1} → statement M
+unfolding three_shown
+show_three_spec = tie.close (tie.spec (search rules) (search rules) (search rules) (λ c. search (then)))

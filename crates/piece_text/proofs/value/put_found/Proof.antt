@@ -1,21 +1,21 @@
-use Rattle.text.proofs.Prelude.{needs}
+use Rattle.text.proofs.Prelude.{rules}
 use Rattle.put.proofs.Writing.{then}
-use Rattle.piece_text.specs.Value.{foundText}
+use Rattle.piece_text.specs.Value.{found_text}
 use Rattle.piece_text.proofs.value.put_found.Statement.{statement}
 use Rattle.piece_text.proofs.value.put_found.Tie as tie
 
 at : tie.Need-returns
-unfolding foundText
-at c = let e : tie.After-found = search needs in rw e.found.given.1 (search (then))
+unfolding found_text
+at c = let e : tie.After-found = search rules in rw e.found.given.1 (search (then))
 
 refused : tie.Need-returns-2
-unfolding foundText
+unfolding found_text
 refused c =
-    let e : tie.After-found2 = search needs in
-    let n : tie.After-number = search needs in
+    let e : tie.After-found2 = search rules in
+    let n : tie.After-number = search rules in
     rw (e.found2.given.1, ← n.number.ensures) c.before.before.put-nat.ensures
 
-pub put-found-spec : {M : Type 1} → statement M
-put-found-spec =
-    tie.close (tie.spec (search needs) (search needs) (search needs) (search needs) (search needs) (search needs)
-    (search needs) (search needs) (search needs) at (search needs) refused)
+pub put_found_spec : {M : Type 1} → statement M
+put_found_spec =
+    tie.close (tie.spec (search rules) (search rules) (search rules) (search rules) (search rules) (search rules)
+    (search rules) (search rules) (search rules) at (search rules) refused)

@@ -1,12 +1,12 @@
-use Rattle.text.proofs.Prelude.{needs}
+use Rattle.text.proofs.Prelude.{rules}
 use Rattle.put.proofs.Writing.{then}
-use Rattle.piece_text.specs.Value.{valueShown}
+use Rattle.piece_text.specs.Value.{value_shown}
 use Rattle.piece_text.proofs.value.show_value.Statement.{statement}
 use Rattle.piece_text.proofs.value.show_value.Tie as tie
 
 -- what is put last is what lookup found
 returns : tie.Need-returns
-unfolding valueShown
+unfolding value_shown
 returns c =
     let found = c.before.before in
     let sign = found.before.before.before.before in
@@ -16,7 +16,7 @@ returns c =
     at (then space.put_byte.ensures
     (then name.put.ensures (then sign.put-byte2.ensures found.put-found.ensures)))
 
-pub show-value-spec : {M : Type 1} → statement M
-show-value-spec =
-    tie.close (tie.spec (search needs) (search needs) (search needs) (search needs) (search needs) (search needs)
+pub show_value_spec : {M : Type 1} → statement M
+show_value_spec =
+    tie.close (tie.spec (search rules) (search rules) (search rules) (search rules) (search rules) (search rules)
     returns)

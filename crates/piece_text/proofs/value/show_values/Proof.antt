@@ -1,17 +1,17 @@
-use Rattle.text.specs.Prelude.{◌-◌, ◌≤◌, take, now}
-use Rattle.text.proofs.Prelude.{needs, arith, take_all}
+use Rattle.text.specs.Prelude.{◌-◌, ◌≤◌, take}
+use Rattle.text.proofs.Prelude.{rules, arith, take_all}
 use Rattle.put.specs.Put.{Wrote}
-use Rattle.put.proofs.Writing.{wrote-length, wrote_nothing}
-use Rattle.log.specs.Fold.{texts}
-use Rattle.piece_text.specs.Value.{valueShown, askedFor}
-use Rattle.piece_text.proofs.Rows.{in-turn}
+use Rattle.put.proofs.Writing.{wrote_length, wrote_nothing}
+use Rattle.igc_log.specs.Fold.{texts}
+use Rattle.piece_text.specs.Value.{value_shown, asked_for}
+use Rattle.piece_text.proofs.Rows.{in_turn}
 use Rattle.piece_text.proofs.value.show_values.Statement.{statement}
 use Rattle.piece_text.proofs.value.show_values.Tie as tie
 
 -- the values of the first i names are written
 abbrev invariant-loop : tie.invariant-loop
 invariant-loop buf₀ at held base rest names line n end₀ i₀ buf end i =
-    (i ≤ n) × Wrote buf₀ at (texts (valueShown base held rest line) (take i (askedFor held names))) buf end
+    (i ≤ n) × Wrote buf₀ at (texts (value_shown base held rest line) (take i (asked_for held names))) buf end
 
 abbrev decreases-loop : tie.decreases-loop
 decreases-loop buf₀ at held base rest names line n end₀ i₀ buf end i = n - i
@@ -27,24 +27,24 @@ again c =
     let o = name.before.before in
     let a = o.before.before.before.before.before.args in (
       omega arith,
-      in-turn _ (askedFor a.held (now a.names)) o.loop.i name.asked-at.ensures
+      in_turn _ (asked_for a.held (a.names.now)) o.loop.i name.asked-at.ensures
           o.loop.invariant.1 value.show-value.ensures,
     )
 
 ends : tie.Need-returns invariant-loop decreases-loop
 ends c =
     let a = c.before.before.before.before.before.before.args in
-    rw (take_all c.before.loop.i (askedFor a.held (now a.names)) (omega arith)) at c.before.loop.invariant.1
+    rw (take_all c.before.loop.i (asked_for a.held (a.names.now)) (omega arith)) at c.before.loop.invariant.1
 
-pub show-values-spec : {M : Type 1} → statement M
-show-values-spec =
+pub show_values_spec : {M : Type 1} → statement M
+show_values_spec =
     tie.close
     (tie.spec
     invariant-loop
     decreases-loop
-    (search needs)
+    (search rules)
     starts
-    (search needs) (search needs) (search needs) (search needs)
+    (search rules) (search rules) (search rules) (search rules)
     again
-    (λ c. wrote-length c.before.loop.invariant.1)
+    (λ c. wrote_length c.before.loop.invariant.1)
     ends)

@@ -1,15 +1,15 @@
-use Rattle.text.proofs.Prelude.{needs, sym, ◌∙◌}
+use Rattle.text.proofs.Prelude.{rules, sym, ◌∙◌}
 use Rattle.held.specs.Held.{is_set}
-use Rattle.piece_text.proofs.Names.{no_names, count-names}
+use Rattle.piece_text.proofs.Names.{no_names, count_names}
 use Rattle.piece_text.proofs.value.table_count.Statement.{statement}
 use Rattle.piece_text.proofs.value.table_count.Tie as tie
 
-pub table-count-spec : {M : Type 1} → statement M
+pub table_count_spec : {M : Type 1} → statement M
 unfolding is_set
-table-count-spec =
+table_count_spec =
     tie.close
     (tie.spec
-    (search needs) (search needs) (search needs) (search needs)
+    (search rules) (search rules) (search rules) (search rules)
     (λ c. sym (no_names _ (rw c.enum_told.given.1)))
     (λ c. sym (no_names _ (rw c.enum-told2.given.1)))
-    (λ c. c.definition-count.ensures ∙ sym (count-names _ (rw c.before.enum-told3.given.1))))
+    (λ c. c.definition-count.ensures ∙ sym (count_names _ (rw c.before.enum-told3.given.1))))

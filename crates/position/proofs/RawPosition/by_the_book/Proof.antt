@@ -1,14 +1,14 @@
 use Rattle.text.specs.Prelude.{◌∧?◌}
-use Rattle.text.proofs.Prelude.{needs, refl, sym, ◌∙◌, first, second}
-use Rattle.position.specs.Position.{positionBook}
+use Rattle.text.proofs.Prelude.{rules, refl, sym, ◌∙◌, first, second}
+use Rattle.position.specs.Position.{position_book}
 use Rattle.position.proofs.RawPosition.by_the_book.Statement.{statement}
 use Rattle.position.proofs.RawPosition.by_the_book.Tie as tie
 
-pub by-the-book-spec : {M : Type 1} → statement M
-unfolding positionBook ◌∧?◌
-by-the-book-spec =
+pub by_the_book_spec : {M : Type 1} → statement M
+unfolding position_book ◌∧?◌
+by_the_book_spec =
     tie.close
     (tie.spec
-    (search needs) (search needs)
+    (search rules) (search rules)
     (λ c. first _ (sym c.before.before.by-the-book.ensures ∙ c.before.if1.true) c.by-the-book2.ensures)
     (λ c. second _ (sym c.before.by-the-book.ensures ∙ c.if1.false) refl))

@@ -1,6 +1,6 @@
 use Rattle.text.specs.Prelude.{◌+◌, ◌≤◌, ◌≡◌, places_of}
 use Rattle.text.proofs.Prelude.{arith, refl}
-use Rattle.text.proofs.Decimal.{places-small, places-large}
+use Rattle.text.proofs.Decimal.{places_small, places_large}
 use Rattle.print.proofs.number.places.Statement.{statement}
 use Rattle.print.proofs.number.places.Tie as tie
 
@@ -13,17 +13,17 @@ decreases-loop n k₀ rest₀ k rest = rest
 loop-holds : tie.Need-loop-init invariant-loop decreases-loop
 loop-holds c = (refl, omega arith)
 
-add-k : tie.Need-overflow-add-k invariant-loop decreases-loop
-add-k c = omega arith
+add_k : tie.Need-overflow-add-k invariant-loop decreases-loop
+add_k c = omega arith
 
 loop-less : tie.Need-loop-smaller invariant-loop decreases-loop
 loop-less c = omega arith
 
 loop-again : tie.Need-loop-preserved invariant-loop decreases-loop
-loop-again c = omega (arith, places-large c.before.loop.rest c.loop-test.true)
+loop-again c = omega (arith, places_large c.before.loop.rest c.loop-test.true)
 
 returns : tie.Need-returns invariant-loop decreases-loop
-returns c = omega (arith, places-small c.before.loop.rest c.loop-test.false)
+returns c = omega (arith, places_small c.before.loop.rest c.loop-test.false)
 
-pub places-spec : {M : Type 1} → statement M
-places-spec = tie.close (tie.spec invariant-loop decreases-loop loop-holds add-k loop-less loop-again returns)
+pub places_spec : {M : Type 1} → statement M
+places_spec = tie.close (tie.spec invariant-loop decreases-loop loop-holds add_k loop-less loop-again returns)

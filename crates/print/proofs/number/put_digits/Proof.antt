@@ -1,8 +1,8 @@
 use Rattle.text.specs.Prelude.{suc, ◌-◌, ◌≡◌, length, digits}
-use Rattle.text.proofs.Prelude.{needs, arith, refl, ◌∙◌, sets}
+use Rattle.text.proofs.Prelude.{rules, arith, refl, ◌∙◌, sets}
 use Rattle.text.proofs.Decimal.{length_digits}
-use Rattle.put.proofs.Writing.{wrote-length, wrote-past}
-use Rattle.print.proofs.Numbers.{digit-before}
+use Rattle.put.proofs.Writing.{wrote_length, wrote_past}
+use Rattle.print.proofs.Numbers.{digit_before}
 use Rattle.print.proofs.number.put_digits.Statement.{statement}
 use Rattle.print.proofs.number.put_digits.Tie as tie
 
@@ -19,8 +19,8 @@ loop-again c =
     let l = c.before.before.before.before.before.before.loop in
     let e : l.i ≡ suc (l.i - 1) = omega arith in
     let w = c.before.before.put_byte.ensures in (
-      wrote-length w ∙ l.invariant.0,
-      digit-before _ (l.i - 1) _ c.before.before.before.after2.ensures w
+      wrote_length w ∙ l.invariant.0,
+      digit_before _ (l.i - 1) _ c.before.before.before.after2.ensures w
           ∙ rw e at l.invariant.1,
     )
 
@@ -29,11 +29,11 @@ unfolding digits
 returns c =
     let l = c.before.before.loop in
     let e : l.i ≡ 0 = omega arith in
-    record { next = rw length_digits (search needs); content = rw e at l.invariant.1; short = omega arith }
+    record { next = rw length_digits (search rules); content = rw e at l.invariant.1; short = omega arith }
 
-pub put-digits-spec : {M : Type 1} → statement M
-put-digits-spec =
-    tie.close (tie.spec invariant-loop decreases-loop (search needs)
-    (λ c. wrote-past _ c.before.if1.true (omega arith) (rw length_digits (search needs))) (λ c. (refl, refl))
-    (search needs) (search needs) (search needs) (search needs) (search needs) (search needs) loop-again
-    (search needs) (search needs) returns)
+pub put_digits_spec : {M : Type 1} → statement M
+put_digits_spec =
+    tie.close (tie.spec invariant-loop decreases-loop (search rules)
+    (λ c. wrote_past _ c.before.if1.true (omega arith) (rw length_digits (search rules))) (λ c. (refl, refl))
+    (search rules) (search rules) (search rules) (search rules) (search rules) (search rules) loop-again
+    (search rules) (search rules) returns)

@@ -1,4 +1,4 @@
-use Rattle.text.proofs.Prelude.{needs}
+use Rattle.text.proofs.Prelude.{rules}
 use mir.Syntax.{w8, w64}
 use Rattle.text.proofs.Signs.{widens, widened}
 use Rattle.print.proofs.number.put_i8.Statement.{statement}
@@ -8,5 +8,5 @@ returns : tie.Need-returns
 returns c = rw (widened w8 w64 tt c.before.before.before.before.before.ranges.z)
     at c.before.before.put-int.ensures
 
-pub put-i8-spec : {M : Type 1} → statement M
-put-i8-spec = tie.close (tie.spec (λ c. widens w8 w64 tt c.before.ranges.z) (search needs) (search needs) returns)
+pub put_i8_spec : {M : Type 1} → statement M
+put_i8_spec = tie.close (tie.spec (λ c. widens w8 w64 tt c.before.ranges.z) (search rules) (search rules) returns)

@@ -1,19 +1,19 @@
 use Rattle.text.specs.Prelude.{◌≡◌}
-use Rattle.text.proofs.Prelude.{needs, sym, ap, ◌∙◌}
+use Rattle.text.proofs.Prelude.{rules, sym, ap, ◌∙◌}
 use mir.Facts.{to_z-of_z}
-use Rattle.print.specs.Signed.{splitOf}
+use Rattle.print.specs.Signed.{split_of}
 use Rattle.put.proofs.Writing.{then}
-use Rattle.print.proofs.Numbers.{plus-text, minus-text}
+use Rattle.print.proofs.Numbers.{plus_text, minus_text}
 use Rattle.print.proofs.number.put_int.Statement.{statement}
 use Rattle.print.proofs.number.put_int.Tie as tie
 
-is : (c : tie.After-split) → c.split.result ≡ splitOf c.before.before.args.z
-is c = c.split.ensures ∙ ap splitOf (to_z-of_z c.before.before.ranges.z)
+is : (c : tie.After-split) → c.split.result ≡ split_of c.before.before.args.z
+is c = c.split.ensures ∙ ap split_of (to_z-of_z c.before.before.ranges.z)
 
 plus : tie.Need-returns
 plus c =
     let n = c.before.before.before.before.before in
-    rw (plus-text _ _ n.before.before.before.before.args.z (sym n.n.given.1 ∙ is (search needs)))
+    rw (plus_text _ _ n.before.before.before.before.args.z (sym n.n.given.1 ∙ is (search rules)))
     at c.before.before.put-nat.ensures
 
 minus : tie.Need-returns-2
@@ -22,11 +22,11 @@ minus c =
     let n = sign.before.before.before in
     rw (
       c.before.before.before.less.ensures,
-      minus-text _ _ n.before.before.before.before.args.z
-          (sym n.n2.given.1 ∙ is (search needs)),
+      minus_text _ _ n.before.before.before.before.args.z
+          (sym n.n2.given.1 ∙ is (search rules)),
     )
     at (then sign.put_byte.ensures c.before.before.put-nat2.ensures)
 
-pub put-int-spec : {M : Type 1} → statement M
-put-int-spec = tie.close (tie.spec (search needs) (search needs) (search needs) (search needs) (search needs)
-    (search needs) (search needs) (search needs) plus (search needs) minus)
+pub put_int_spec : {M : Type 1} → statement M
+put_int_spec = tie.close (tie.spec (search rules) (search rules) (search rules) (search rules) (search rules)
+    (search rules) (search rules) (search rules) plus (search rules) minus)

@@ -1,5 +1,5 @@
 use Rattle.text.specs.Prelude.{padded}
-use Rattle.text.proofs.Prelude.{needs}
+use Rattle.text.proofs.Prelude.{rules}
 use Rattle.put.proofs.Writing.{then}
 use Rattle.print.proofs.number.put_nat.Statement.{statement}
 use Rattle.print.proofs.number.put_nat.Tie as tie
@@ -12,5 +12,5 @@ returns c =
     rw (width.less.ensures, width.before.before.places.ensures)
     at (then zeros.put-zeros.ensures c.before.before.put-digits.ensures)
 
-pub put-nat-spec : {M : Type 1} → statement M
-put-nat-spec = tie.close (tie.spec (search needs) (search needs) (search needs) (search needs) (search needs) returns)
+pub put_nat_spec : {M : Type 1} → statement M
+put_nat_spec = tie.close (tie.spec (search rules) (search rules) (search rules) (search rules) (search rules) returns)

@@ -1,8 +1,8 @@
 use Rattle.text.specs.Prelude.{ℕ, ◌+◌, ◌-◌, ◌≤◌, ◌≡◌, List, replicate}
-use Rattle.text.proofs.Prelude.{needs, arith, refl}
+use Rattle.text.proofs.Prelude.{rules, arith, refl}
 use lib.ListN.{length-replicate, replicate-append-replicate}
 use Rattle.put.specs.Put.{Wrote}
-use Rattle.put.proofs.Writing.{then, wrote-length, wrote_nothing, wrote-past}
+use Rattle.put.proofs.Writing.{then, wrote_length, wrote_nothing, wrote_past}
 use Rattle.print.proofs.number.put_zeros.Statement.{statement}
 use Rattle.print.proofs.number.put_zeros.Tie as tie
 
@@ -14,9 +14,9 @@ abbrev decreases-loop : tie.decreases-loop
 decreases-loop buf₀ at k next₀ j₀ buf next j = k - j
 
 -- j zeros and then m are k
-zeros-then : {b b' b'' : List ℕ} {i a e : ℕ} (j m k : ℕ) → j + m ≡ k → Wrote b i (replicate j 48) b' a → Wrote b' a
+zeros_then : {b b' b'' : List ℕ} {i a e : ℕ} (j m k : ℕ) → j + m ≡ k → Wrote b i (replicate j 48) b' a → Wrote b' a
     (replicate m 48) b'' e → Wrote b i (replicate k 48) b'' e
-zeros-then j m k e p q = rw (replicate-append-replicate {A = ℕ} j m 48, e) at (then p q)
+zeros_then j m k e p q = rw (replicate-append-replicate {A = ℕ} j m 48, e) at (then p q)
 
 loop-holds : tie.Need-loop-init invariant-loop decreases-loop
 loop-holds c = (omega arith, wrote_nothing _ _ (omega arith) (omega arith))
@@ -25,30 +25,30 @@ full : tie.Need-returns invariant-loop decreases-loop
 full c =
     let l = c.before.before.before.loop in
     let k = c.before.before.before.before.before.args.k in
-    zeros-then l.j (k - l.j) k (omega arith) l.invariant.1
-    (wrote-past _ (search needs) (omega (arith, wrote-length l.invariant.1, l.invariant.1.short))
-    (rw length-replicate (search needs)))
+    zeros_then l.j (k - l.j) k (omega arith) l.invariant.1
+    (wrote_past _ (search rules) (omega (arith, wrote_length l.invariant.1, l.invariant.1.short))
+    (rw length-replicate (search rules)))
 
 loop-again : tie.Need-loop-preserved invariant-loop decreases-loop
 loop-again c =
     let l = c.before.before.before.before.before.before.loop in
-    (omega arith, zeros-then l.j 1 _ refl l.invariant.1 c.before.before.put_byte.ensures)
+    (omega arith, zeros_then l.j 1 _ refl l.invariant.1 c.before.before.put_byte.ensures)
 
 ends : tie.Need-returns-2 invariant-loop decreases-loop
 ends c = let e : c.before.loop.j ≡ c.before.before.before.args.k = omega arith in
     rw e at c.before.loop.invariant.1
 
-pub put-zeros-spec : {M : Type 1} → statement M
-put-zeros-spec =
+pub put_zeros_spec : {M : Type 1} → statement M
+put_zeros_spec =
     tie.close
     (tie.spec
     invariant-loop
     decreases-loop
     loop-holds
-    (search needs) (search needs)
-    (λ c. wrote-length c.before.before.before.loop.invariant.1)
+    (search rules) (search rules)
+    (λ c. wrote_length c.before.before.before.loop.invariant.1)
     full
-    (search needs) (search needs) (search needs)
+    (search rules) (search rules) (search rules)
     loop-again
-    (λ c. wrote-length c.before.loop.invariant.1)
+    (λ c. wrote_length c.before.loop.invariant.1)
     ends)

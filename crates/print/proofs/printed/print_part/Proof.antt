@@ -1,36 +1,36 @@
-use Rattle.text.specs.Prelude.{ℕ, ◌≡◌, List, now, ok, no}
-use Rattle.text.proofs.Prelude.{needs, came, off}
-use Rattle.part.specs.Part.{findPart, partText, text_of, foundRes}
+use Rattle.text.specs.Prelude.{ℕ, ◌≡◌, List, ok, no}
+use Rattle.text.proofs.Prelude.{rules, came, off}
+use Rattle.part.specs.Part.{find_part, part_text, text_of, found_res}
 use Rattle.part.specs.declared.Part.{Part}
-use Rattle.part.proofs.Parts.{text-found}
+use Rattle.part.proofs.Parts.{text_found}
 use Rattle.print.proofs.Printing.{refused, no_room, written}
 use Rattle.print.proofs.printed.print_part.Statement.{statement}
 use Rattle.print.proofs.printed.print_part.Tie as tie
 
 abbrev line : tie.Start → List ℕ
-line b = now b.args.line
+line b = b.args.line.now
 
 abbrev asked : tie.Start → Part
 asked b = b.args.p
 
-found : (c : tie.After--inside) → ok c.-inside.given.0.0 ≡ findPart (asked (search needs)) (line (search needs))
-found c = came foundRes c.-inside.given.1 c.before.before.find.ensures
+found : (c : tie.After--inside) → ok c.-inside.given.0.0 ≡ find_part (asked (search rules)) (line (search rules))
+found c = came found_res c.-inside.given.1 c.before.before.find.ensures
 
 outside : tie.Need-returns-2
-unfolding partText text_of
-outside c = refused _ (off _ (came foundRes c.before.no.given.1 c.before.before.before.find.ensures))
+unfolding part_text text_of
+outside c = refused _ (off _ (came found_res c.before.no.given.1 c.before.before.before.find.ensures))
 
 full : tie.Need-returns
-unfolding partText
-full c = no_room (text-found _ (found (search needs))) c.before.before.put-part.ensures (search needs)
+unfolding part_text
+full c = no_room (text_found _ (found (search rules))) c.before.before.put-part.ensures (search rules)
 
 fits : tie.Need-returns-3
-unfolding partText
-fits c = written (text-found _ (found (search needs)))
-    c.before.before.before.before.before.before.put-part.ensures (search needs)
+unfolding part_text
+fits c = written (text_found _ (found (search rules)))
+    c.before.before.before.before.before.before.put-part.ensures (search rules)
     c.before.before.put-part2.ensures
 
-pub print-part-spec : {M : Type 1} → statement M
-print-part-spec =
-    tie.close (tie.spec (search needs) (search needs) (search needs) (search needs) (search needs) full (search needs)
-    outside (search needs) fits)
+pub print_part_spec : {M : Type 1} → statement M
+print_part_spec =
+    tie.close (tie.spec (search rules) (search rules) (search rules) (search rules) (search rules) full (search rules)
+    outside (search rules) fits)

@@ -1,17 +1,17 @@
-use Rattle.text.proofs.Prelude.{needs}
+use Rattle.text.proofs.Prelude.{rules}
 use lib.Ieee.{binary64}
 use Rattle.raw_coord.specs.Degrees.{by_sign}
-use Rattle.raw_coord.proofs.Floats.{by-sign}
+use Rattle.raw_coord.proofs.Floats.{by_sign_lem}
 use Rattle.raw_coord.proofs.RawCoord.to_f64.Statement.{statement}
 use Rattle.raw_coord.proofs.RawCoord.to_f64.Tie as tie
 
-pub to-f64-spec : {M : Type 1} → statement M
+pub to_f64_spec : {M : Type 1} → statement M
 unfolding by_sign
-to-f64-spec =
+to_f64_spec =
     tie.close
     (tie.spec
-    (search needs) (search needs) (search needs) (search needs) (search needs) (search needs)
-    (λ c. by-sign binary64 _ c.enum_told.given.1)
-    (λ c. by-sign binary64 _ c.enum-told2.given.1)
-    (λ c. by-sign binary64 _ c.enum-told3.given.1)
-    (λ c. by-sign binary64 _ c.enum-told4.given.1))
+    (search rules) (search rules) (search rules) (search rules) (search rules) (search rules)
+    (λ c. by_sign_lem binary64 _ c.enum_told.given.1)
+    (λ c. by_sign_lem binary64 _ c.enum-told2.given.1)
+    (λ c. by_sign_lem binary64 _ c.enum-told3.given.1)
+    (λ c. by_sign_lem binary64 _ c.enum-told4.given.1))

@@ -1,12 +1,12 @@
-use Rattle.text.proofs.Prelude.{needs}
+use Rattle.text.proofs.Prelude.{rules}
 use Rattle.put.proofs.Writing.{then}
-use Rattle.record_text.specs.Record.{aShown}
+use Rattle.record_text.specs.Record.{a_shown}
 use Rattle.record_text.proofs.record.show_a.Statement.{statement}
 use Rattle.record_text.proofs.record.show_a.Tie as tie
 
 -- the codes that are put are the maker's
 returns : tie.Need-returns
-unfolding aShown
+unfolding a_shown
 returns c =
     let extension = c.before.before in
     let id = extension.before.before.before.before in
@@ -16,6 +16,6 @@ returns c =
     at (then letter.show-letter.ensures
     (then triple.show-triple.ensures (then id.show-part.ensures extension.show-maybe.ensures)))
 
-pub show-a-spec : {M : Type 1} → statement M
-show-a-spec = tie.close (tie.spec (search needs) (search needs) (search needs) (search needs) (search needs)
-    (search needs) (search needs) returns)
+pub show_a_spec : {M : Type 1} → statement M
+show_a_spec = tie.close (tie.spec (search rules) (search rules) (search rules) (search rules) (search rules)
+    (search rules) (search rules) returns)

@@ -1,10 +1,10 @@
-use Rattle.text.proofs.Prelude.{needs}
+use Rattle.text.proofs.Prelude.{rules}
 use Rattle.put.proofs.Writing.{then}
-use Rattle.record_text.specs.Record.{bShown}
+use Rattle.record_text.specs.Record.{b_shown}
 use Rattle.record_text.proofs.record.show_b.Statement.{statement}
 use Rattle.record_text.proofs.record.show_b.Tie as tie
 
-pub show-b-spec : {M : Type 1} → statement M
-unfolding bShown
-show-b-spec = tie.close (tie.spec (search needs) (search needs) (search needs) (search needs) (search needs)
+pub show_b_spec : {M : Type 1} → statement M
+unfolding b_shown
+show_b_spec = tie.close (tie.spec (search rules) (search rules) (search rules) (search rules) (search rules)
     (λ c. search (then)))

@@ -1,16 +1,16 @@
-use Rattle.text.proofs.Prelude.{needs}
+use Rattle.text.proofs.Prelude.{rules}
 use Rattle.put.proofs.Writing.{then}
-use Rattle.record_text.specs.Record.{dShown}
+use Rattle.record_text.specs.Record.{d_shown}
 use Rattle.record_text.proofs.record.show_d.Statement.{statement}
 use Rattle.record_text.proofs.record.show_d.Tie as tie
 
 -- the byte that is put first is the qualifier's
 returns : tie.Need-returns
-unfolding dShown
+unfolding d_shown
 returns c =
     let station = c.before.before in
     let qualifier = station.before.before.before.before in
     rw qualifier.before.letter.ensures at (then qualifier.show-byte.ensures station.show-part.ensures)
 
-pub show-d-spec : {M : Type 1} → statement M
-show-d-spec = tie.close (tie.spec (search needs) (search needs) (search needs) (search needs) returns)
+pub show_d_spec : {M : Type 1} → statement M
+show_d_spec = tie.close (tie.spec (search rules) (search rules) (search rules) (search rules) returns)

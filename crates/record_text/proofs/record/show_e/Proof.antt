@@ -1,9 +1,9 @@
-use Rattle.text.proofs.Prelude.{needs}
+use Rattle.text.proofs.Prelude.{rules}
 use Rattle.put.proofs.Writing.{then}
-use Rattle.record_text.specs.Record.{eShown}
+use Rattle.record_text.specs.Record.{e_shown}
 use Rattle.record_text.proofs.record.show_e.Statement.{statement}
 use Rattle.record_text.proofs.record.show_e.Tie as tie
 
-pub show-e-spec : {M : Type 1} → statement M
-unfolding eShown
-show-e-spec = tie.close (tie.spec (search needs) (search needs) (search needs) (search needs) (λ c. search (then)))
+pub show_e_spec : {M : Type 1} → statement M
+unfolding e_shown
+show_e_spec = tie.close (tie.spec (search rules) (search rules) (search rules) (search rules) (λ c. search (then)))

@@ -1,12 +1,12 @@
-use Rattle.text.proofs.Prelude.{needs}
+use Rattle.text.proofs.Prelude.{rules}
 use Rattle.put.proofs.Writing.{then}
-use Rattle.record_text.specs.Record.{fShown}
+use Rattle.record_text.specs.Record.{f_shown}
 use Rattle.record_text.proofs.record.show_f.Statement.{statement}
 use Rattle.record_text.proofs.record.show_f.Tie as tie
 
 -- the number that is put second is the set's count
 returns : tie.Need-returns
-unfolding fShown
+unfolding f_shown
 returns c =
     let list = c.before.before in
     let count = list.before.before.before.before in
@@ -14,6 +14,6 @@ returns c =
     rw count.before.count.ensures.all
     at (then time.show-time.ensures (then count.show-number.ensures list.show-part.ensures))
 
-pub show-f-spec : {M : Type 1} → statement M
-show-f-spec = tie.close (tie.spec (search needs) (search needs) (search needs) (search needs) (search needs)
-    (search needs) returns)
+pub show_f_spec : {M : Type 1} → statement M
+show_f_spec = tie.close (tie.spec (search rules) (search rules) (search rules) (search rules) (search rules)
+    (search rules) returns)

@@ -1,12 +1,12 @@
-use Rattle.text.proofs.Prelude.{needs}
+use Rattle.text.proofs.Prelude.{rules}
 use Rattle.put.proofs.Writing.{then}
-use Rattle.piece_text.specs.Piece.{pressureShown, gpsShown}
-use Rattle.record_text.specs.Record.{fixShown}
+use Rattle.piece_text.specs.Piece.{pressure_shown, gps_shown}
+use Rattle.record_text.specs.Record.{fix_shown}
 use Rattle.record_text.proofs.record.show_fix.Statement.{statement}
 use Rattle.record_text.proofs.record.show_fix.Tie as tie
 
 returns : tie.Need-returns
-unfolding fixShown pressureShown gpsShown
+unfolding fix_shown pressure_shown gps_shown
 returns c =
     let rest = c.before.before in
     let gps = rest.before.before.before.before in
@@ -19,10 +19,10 @@ returns c =
     (then (then second.put-byte2.ensures gps.put2.ensures) rest.show-part.ensures) in
     rw letter.before.letter.ensures at (then letter.show-byte.ensures heights)
 
-pub show-fix-spec : {M : Type 1} → statement M
-show-fix-spec =
+pub show_fix_spec : {M : Type 1} → statement M
+show_fix_spec =
     tie.close
     (tie.spec
-    (search needs) (search needs) (search needs) (search needs) (search needs) (search needs) (search needs)
-    (search needs)
+    (search rules) (search rules) (search rules) (search rules) (search rules) (search rules) (search rules)
+    (search rules)
     returns)

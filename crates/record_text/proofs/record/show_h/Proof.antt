@@ -1,12 +1,12 @@
-use Rattle.text.proofs.Prelude.{needs}
+use Rattle.text.proofs.Prelude.{rules}
 use Rattle.put.proofs.Writing.{then}
-use Rattle.record_text.specs.Record.{hShown}
+use Rattle.record_text.specs.Record.{h_shown}
 use Rattle.record_text.proofs.record.show_h.Statement.{statement}
 use Rattle.record_text.proofs.record.show_h.Tie as tie
 
 -- the byte that is put first is the source's
 returns : tie.Need-returns
-unfolding hShown
+unfolding h_shown
 returns c =
     let end = c.before.before in
     let name = end.before.before.before.before in
@@ -16,6 +16,6 @@ returns c =
     at (then source.show-byte.ensures
     (then short.show-part.ensures (then name.show-maybe.ensures end.show-part2.ensures)))
 
-pub show-h-spec : {M : Type 1} → statement M
-show-h-spec = tie.close (tie.spec (search needs) (search needs) (search needs) (search needs) (search needs)
-    (search needs) returns)
+pub show_h_spec : {M : Type 1} → statement M
+show_h_spec = tie.close (tie.spec (search rules) (search rules) (search rules) (search rules) (search rules)
+    (search rules) returns)

@@ -1,21 +1,21 @@
-use Rattle.text.proofs.Prelude.{needs}
+use Rattle.text.proofs.Prelude.{rules}
 use mir.Syntax.{w8}
 use mir.Val.{SFits}
 use mir.Facts.{to_z-of_z}
 use Rattle.put.proofs.Writing.{then}
 use Rattle.c_record.specs.declared.CRecordDeclaration.{CRecordDeclaration}
-use Rattle.record_text.specs.Record.{taskShown}
+use Rattle.record_text.specs.Record.{task_shown}
 use Rattle.record_text.proofs.record.show_task.Statement.{statement}
 use Rattle.record_text.proofs.record.show_task.Tie as tie
 
 abbrev task : tie.Start → CRecordDeclaration
 task c = c.args.task
 
-count_fits : (c : tie.After-struct-told) → SFits w8 (task (search needs)).turnpoint_count
-count_fits c = search needs
+count_fits : (c : tie.After-struct-told) → SFits w8 (task (search rules)).turnpoint_count
+count_fits c = search rules
 
 returns : tie.Need-returns
-unfolding taskShown
+unfolding task_shown
 returns c =
     let name = c.before.before in
     let count = name.before.before.before.before in
@@ -25,7 +25,7 @@ returns c =
     at (then id.show-number.ensures
     (then space.put_byte.ensures (then count.put-i8.ensures name.show-maybe.ensures)))
 
-pub show-task-spec : {M : Type 1} → statement M
-show-task-spec =
-    tie.close (tie.spec (search needs) (search needs) (search needs) (search needs) (search needs) (search needs)
+pub show_task_spec : {M : Type 1} → statement M
+show_task_spec =
+    tie.close (tie.spec (search rules) (search rules) (search rules) (search rules) (search rules) (search rules)
     returns)

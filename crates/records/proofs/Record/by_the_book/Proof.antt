@@ -1,16 +1,16 @@
-use Rattle.text.proofs.Prelude.{needs}
-use Rattle.records.specs.Record.{recordBook}
+use Rattle.text.proofs.Prelude.{rules}
+use Rattle.records.specs.Record.{record_book}
 use Rattle.records.proofs.Record.by_the_book.Statement.{statement}
 use Rattle.records.proofs.Record.by_the_book.Tie as tie
 
-pub by-the-book-spec : {M : Type 1} → statement M
-unfolding recordBook
-by-the-book-spec =
+pub by_the_book_spec : {M : Type 1} → statement M
+unfolding record_book
+by_the_book_spec =
     tie.close
     (tie.spec
-    (search needs) (search needs) (search needs) (search needs) (search needs) (search needs) (search needs)
-    (search needs) (search needs) (search needs) (search needs) (search needs) (search needs) (search needs)
-    (search needs) (search needs) (search needs) (search needs) (search needs) (search needs)
+    (search rules) (search rules) (search rules) (search rules) (search rules) (search rules) (search rules)
+    (search rules) (search rules) (search rules) (search rules) (search rules) (search rules) (search rules)
+    (search rules) (search rules) (search rules) (search rules) (search rules) (search rules)
     (λ c. rw c.enum_told.given.1)
     (λ c. rw c.before.before.self.given.1 c.by-the-book.ensures)
     (λ c. rw c.before.before.self2.given.1 c.by-the-book2.ensures)

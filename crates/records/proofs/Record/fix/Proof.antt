@@ -1,15 +1,15 @@
-use Rattle.text.proofs.Prelude.{needs}
-use Rattle.records.specs.Record.{recordFix}
+use Rattle.text.proofs.Prelude.{rules}
+use Rattle.records.specs.Record.{record_fix}
 use Rattle.records.proofs.Record.fix.Statement.{statement}
 use Rattle.records.proofs.Record.fix.Tie as tie
 
-pub fix-spec : {M : Type 1} → statement M
-unfolding recordFix
-fix-spec =
+pub fix_spec : {M : Type 1} → statement M
+unfolding record_fix
+fix_spec =
     tie.close
     (tie.spec
-    (search needs) (search needs) (search needs) (search needs) (search needs) (search needs) (search needs)
-    (search needs) (search needs) (search needs) (search needs) (search needs) (search needs) (search needs)
+    (search rules) (search rules) (search rules) (search rules) (search rules) (search rules) (search rules)
+    (search rules) (search rules) (search rules) (search rules) (search rules) (search rules) (search rules)
     (λ c. rw c.before.self.given.1)
     (λ c. rw c.enum_told.given.1)
     (λ c. rw c.enum-told2.given.1)

@@ -1,15 +1,15 @@
-use Rattle.text.proofs.Prelude.{needs}
-use Rattle.records.specs.Record.{acceptedAs}
+use Rattle.text.proofs.Prelude.{rules}
+use Rattle.records.specs.Record.{accepted_as}
 use Rattle.records.proofs.Record.number.Statement.{statement}
 use Rattle.records.proofs.Record.number.Tie as tie
 
-pub number-spec : {M : Type 1} → statement M
-unfolding acceptedAs
-number-spec =
+pub number_spec : {M : Type 1} → statement M
+unfolding accepted_as
+number_spec =
     tie.close
     (tie.spec
-    (search needs) (search needs) (search needs) (search needs) (search needs) (search needs) (search needs)
-    (search needs) (search needs) (search needs) (search needs) (search needs) (search needs) (search needs)
+    (search rules) (search rules) (search rules) (search rules) (search rules) (search rules) (search rules)
+    (search rules) (search rules) (search rules) (search rules) (search rules) (search rules) (search rules)
     (λ c. rw c.enum_told.given.1)
     (λ c. rw c.enum-told2.given.1)
     (λ c. rw c.enum-told3.given.1)

@@ -1,17 +1,17 @@
-use Rattle.text.proofs.Prelude.{needs}
-use Rattle.records.specs.Record.{recordTable}
+use Rattle.text.proofs.Prelude.{rules}
+use Rattle.records.specs.Record.{record_table}
 use Rattle.records.proofs.Record.table.Statement.{statement}
 use Rattle.records.proofs.Record.table.Tie as tie
 
-pub table-spec : {M : Type 1} → statement M
-unfolding recordTable
-table-spec =
+pub table_spec : {M : Type 1} → statement M
+unfolding record_table
+table_spec =
     tie.close
     (tie.spec
-    (search needs) (search needs) (search needs) (search needs) (search needs) (search needs) (search needs)
-    (search needs) (search needs) (search needs) (search needs) (search needs) (search needs) (search needs)
-    (search needs) (search needs) (search needs) (search needs) (search needs) (search needs) (search needs)
-    (search needs) (search needs) (search needs) (search needs) (search needs) (search needs) (search needs)
+    (search rules) (search rules) (search rules) (search rules) (search rules) (search rules) (search rules)
+    (search rules) (search rules) (search rules) (search rules) (search rules) (search rules) (search rules)
+    (search rules) (search rules) (search rules) (search rules) (search rules) (search rules) (search rules)
+    (search rules) (search rules) (search rules) (search rules) (search rules) (search rules) (search rules)
     (λ c. rw (c.before.before.enum_told.given.1, c.before.parse.ensures))
     (λ c. rw (c.before.before.enum-told2.given.1, c.before.parse2.ensures))
     (λ c. rw c.before.enum-told3.given.1 c.new.ensures)

@@ -1,52 +1,52 @@
 use Rattle.text.specs.Prelude.{◌≡◌, length, get_or, Res}
-use Rattle.text.proofs.Prelude.{needs, sym, ◌∙◌}
-use Rattle.records.specs.Record.{answered, answerFix, readingRes}
+use Rattle.text.proofs.Prelude.{rules, sym, ◌∙◌}
+use Rattle.records.specs.Record.{answered, answer_fix, reading_res}
 use Rattle.records.specs.declared.{Record.Record, MaybeFix.MaybeFix}
 use Rattle.records.proofs.Answers.{number_is}
 use Rattle.report.specs.Counts.{numbers}
 use Rattle.report.specs.Figures.{Figures}
-use Rattle.report.specs.Report.{figuresIn}
+use Rattle.report.specs.Report.{figures_in}
 use Rattle.report.specs.declared.{pressure.PressurePeak.PressurePeak, gps.GpsPeak.GpsPeak}
-use Rattle.report.proofs.Taking.{Counted, counted, lines-full, answer-full, fixes-full, taken-other, taken-fix}
+use Rattle.report.proofs.Taking.{Counted, counted, lines_full, answer_full, fixes_full, taken_other, taken_fix}
 use Rattle.report.proofs.Report.after.Statement.{statement}
 use Rattle.report.proofs.Report.after.Tie as tie
 
 abbrev figures : tie.Start → Figures PressurePeak GpsPeak
-figures b = figuresIn b.args.self
+figures b = figures_in b.args.self
 
 abbrev answer : tie.Start → Res Record
-answer b = readingRes b.args.reading
+answer b = reading_res b.args.reading
 
 wide : (c : tie.Start) → length (figures c).answers ≡ numbers
-wide c = search needs
+wide c = search rules
 
-number : (c : tie.After-number) → c.number.result ≡ answered (answer (search needs))
+number : (c : tie.After-number) → c.number.result ≡ answered (answer (search rules))
 number c = number_is _ c.number.ensures
 
 count : (c : tie.After-count-of) →
-    c.count_of.result ≡ get_or (figures (search needs)).answers (answered (answer (search needs))) 0
-count c = rw (number (search needs)) at c.count_of.ensures
+    c.count_of.result ≡ get_or (figures (search rules)).answers (answered (answer (search rules))) 0
+count c = rw (number (search rules)) at c.count_of.ensures
 
-counts : (c : tie.After-with-count) → Counted (figures (search needs)) (answer (search needs)) c.with-count.result
+counts : (c : tie.After-with-count) → Counted (figures (search rules)) (answer (search rules)) c.with-count.result
 counts c =
-    counted _ _ (number (search needs)) (count (search needs)) c.with-count.ensures (wide (search needs))
-    (search needs) (search needs)
+    counted _ _ (number (search rules)) (count (search rules)) c.with-count.ensures (wide (search rules))
+    (search rules) (search rules)
 
-other : (c : tie.After-enum-told) → MaybeFix.Missing ≡ answerFix (answer (search needs))
+other : (c : tie.After-enum-told) → MaybeFix.Missing ≡ answer_fix (answer (search rules))
 other c = sym c.enum_told.given.1 ∙ c.before.before.fix.ensures
 
-fix : (c : tie.After-fix2) → MaybeFix.Fix c.fix2.given.0.0 ≡ answerFix (answer (search needs))
+fix : (c : tie.After-fix2) → MaybeFix.Fix c.fix2.given.0.0 ≡ answer_fix (answer (search rules))
 fix c = sym c.fix2.given.1 ∙ c.before.before.fix.ensures
 
-pub after-spec : {M : Type 1} → statement M
-after-spec =
+pub after_spec : {M : Type 1} → statement M
+after_spec =
     tie.close
     (tie.spec
-    (search needs) (search needs) (search needs)
-    (λ c. lines-full _ _ _ (search needs))
-    (λ c. answer-full _ _ _ (count (search needs)) (search needs) (search needs))
-    (search needs) (search needs) (search needs) (search needs) (search needs) (search needs)
-    (λ c. fixes-full _ _ _ (counts (search needs)) (fix (search needs)) (search needs))
-    (search needs) (search needs)
-    (λ c. taken-other _ _ _ (counts (search needs)) (other (search needs)) (search needs))
-    (λ c. c.with-fix.ensures ∙ taken-fix _ _ _ (counts (search needs)) (fix (search needs)) (search needs)))
+    (search rules) (search rules) (search rules)
+    (λ c. lines_full _ _ _ (search rules))
+    (λ c. answer_full _ _ _ (count (search rules)) (search rules) (search rules))
+    (search rules) (search rules) (search rules) (search rules) (search rules) (search rules)
+    (λ c. fixes_full _ _ _ (counts (search rules)) (fix (search rules)) (search rules))
+    (search rules) (search rules)
+    (λ c. taken_other _ _ _ (counts (search rules)) (other (search rules)) (search rules))
+    (λ c. c.with-fix.ensures ∙ taken_fix _ _ _ (counts (search rules)) (fix (search rules)) (search rules)))

@@ -1,15 +1,15 @@
 use Rattle.text.specs.Prelude.{◌∨?◌, pick}
-use Rattle.text.proofs.Prelude.{needs, yes≤, no≤}
-use Rattle.report.specs.Report.{isFull}
+use Rattle.text.proofs.Prelude.{rules, yes≤, no≤}
+use Rattle.report.specs.Report.{is_full_of}
 use Rattle.report.proofs.Report.is_full.Statement.{statement}
 use Rattle.report.proofs.Report.is_full.Tie as tie
 
-pub is-full-spec : {M : Type 1} → statement M
-unfolding isFull ◌∨?◌ pick
-is-full-spec =
+pub is_full_spec : {M : Type 1} → statement M
+unfolding is_full_of ◌∨?◌ pick
+is_full_spec =
     tie.close
     (tie.spec
     (λ c. rw (yes≤ c.if1.true))
     (λ c. rw (no≤ c.before.before.if1.false, yes≤ c.if2.true))
-    (search needs)
+    (search rules)
     (λ c. rw (no≤ c.before.before.before.if1.false, no≤ c.before.if2.false) c.one-full.ensures))

@@ -4,7 +4,7 @@ use Rattle.report.specs.Figures.{earlier}
 use Rattle.report.proofs.times.later_of.Statement.{statement}
 use Rattle.report.proofs.times.later_of.Tie as tie
 
-pub later-of-spec : {M : Type 1} → statement M
+pub later_of_spec : {M : Type 1} → statement M
 unfolding higher earlier
-later-of-spec =
+later_of_spec =
     tie.close (tie.spec (λ c. first _ (yes≤ (omega arith)) refl) (λ c. second _ (no≤ (omega arith)) refl))

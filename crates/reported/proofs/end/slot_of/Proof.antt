@@ -1,14 +1,14 @@
-use Rattle.text.proofs.Prelude.{needs}
+use Rattle.text.proofs.Prelude.{rules}
 use Rattle.reported.specs.End.{slot_of}
 use Rattle.reported.proofs.end.slot_of.Statement.{statement}
 use Rattle.reported.proofs.end.slot_of.Tie as tie
 
-pub slot-of-spec : {M : Type 1} → statement M
+pub slot_of_spec : {M : Type 1} → statement M
 unfolding slot_of
-slot-of-spec =
+slot_of_spec =
     tie.close
     (tie.spec
-    (search needs)
-    (search needs)
+    (search rules)
+    (search rules)
     (λ c. rw c.enum_told.given.1)
     (λ c. rw c.before.verdict.given.1))

@@ -1,9 +1,9 @@
-use Rattle.text.proofs.Prelude.{needs}
-use Rattle.report.proofs.Answers.{report-is}
-use Rattle.reported.specs.End.{walkFrom}
+use Rattle.text.proofs.Prelude.{rules}
+use Rattle.report.proofs.Answers.{report_is}
+use Rattle.reported.specs.End.{walk_from_of}
 use Rattle.reported.proofs.end.walk_from.Statement.{statement}
 use Rattle.reported.proofs.end.walk_from.Tie as tie
 
-pub walk-from-spec : {M : Type 1} → statement M
-unfolding walkFrom
-walk-from-spec = tie.close (tie.spec (search needs) (λ c. rw (report-is c.report.result c.report.ensures)))
+pub walk_from_spec : {M : Type 1} → statement M
+unfolding walk_from_of
+walk_from_spec = tie.close (tie.spec (search rules) (λ c. rw (report_is c.report.result c.report.ensures)))

@@ -2,5 +2,5 @@ use Rattle.text.proofs.Prelude.{refl, first, second}
 use Rattle.reported.proofs.ends.place_of.Statement.{statement}
 use Rattle.reported.proofs.ends.place_of.Tie as tie
 
-pub place-of-spec : {M : Type 1} → statement M
-place-of-spec = tie.close (tie.spec (λ c. first _ c.if1.true refl) (λ c. second _ c.if1.false refl))
+pub place_of_spec : {M : Type 1} → statement M
+place_of_spec = tie.close (tie.spec (λ c. first _ c.if1.true refl) (λ c. second _ c.if1.false refl))

@@ -1,14 +1,14 @@
-use Rattle.text.proofs.Prelude.{needs}
-use Rattle.reported.specs.Glance.{isMarked}
+use Rattle.text.proofs.Prelude.{rules}
+use Rattle.reported.specs.Glance.{is_marked_of}
 use Rattle.reported.proofs.glance.is_marked.Statement.{statement}
 use Rattle.reported.proofs.glance.is_marked.Tie as tie
 
-pub is-marked-spec : {M : Type 1} → statement M
-unfolding isMarked
-is-marked-spec =
+pub is_marked_spec : {M : Type 1} → statement M
+unfolding is_marked_of
+is_marked_spec =
     tie.close
     (tie.spec
-    (search needs)
-    (search needs)
+    (search rules)
+    (search rules)
     (λ c. rw c.enum_told.given.1)
     (λ c. rw c.enum-told2.given.1))

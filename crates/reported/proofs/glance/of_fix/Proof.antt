@@ -1,13 +1,13 @@
-use Rattle.text.proofs.Prelude.{needs}
-use Rattle.reported.specs.Glance.{fixGlance}
+use Rattle.text.proofs.Prelude.{rules}
+use Rattle.reported.specs.Glance.{fix_glance}
 use Rattle.reported.proofs.glance.of_fix.Statement.{statement}
 use Rattle.reported.proofs.glance.of_fix.Tie as tie
 
-pub of-fix-spec : {M : Type 1} → statement M
-unfolding fixGlance
-of-fix-spec =
+pub of_fix_spec : {M : Type 1} → statement M
+unfolding fix_glance
+of_fix_spec =
     tie.close
     (tie.spec
-    (search needs)
-    (search needs)
+    (search rules)
+    (search rules)
     (λ c. rw (c.before.seconds-since-midnight.ensures, c.is-marked.ensures)))

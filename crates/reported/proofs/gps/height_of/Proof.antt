@@ -2,5 +2,5 @@ use Rattle.text.proofs.Prelude.{refl, first, second}
 use Rattle.reported.proofs.gps.height_of.Statement.{statement}
 use Rattle.reported.proofs.gps.height_of.Tie as tie
 
-pub height-of-spec : {M : Type 1} → statement M
-height-of-spec = tie.close (tie.spec (λ c. first _ c.if1.true refl) (λ c. second _ c.if1.false refl))
+pub height_of_spec : {M : Type 1} → statement M
+height_of_spec = tie.close (tie.spec (λ c. first _ c.if1.true refl) (λ c. second _ c.if1.false refl))

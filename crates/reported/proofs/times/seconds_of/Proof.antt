@@ -2,5 +2,5 @@ use Rattle.text.proofs.Prelude.{refl, first, second}
 use Rattle.reported.proofs.times.seconds_of.Statement.{statement}
 use Rattle.reported.proofs.times.seconds_of.Tie as tie
 
-pub seconds-of-spec : {M : Type 1} → statement M
-seconds-of-spec = tie.close (tie.spec (λ c. first _ c.if1.true refl) (λ c. second _ c.if1.false refl))
+pub seconds_of_spec : {M : Type 1} → statement M
+seconds_of_spec = tie.close (tie.spec (λ c. first _ c.if1.true refl) (λ c. second _ c.if1.false refl))

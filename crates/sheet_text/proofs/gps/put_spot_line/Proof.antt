@@ -1,13 +1,13 @@
-use Rattle.text.proofs.Prelude.{needs}
+use Rattle.text.proofs.Prelude.{rules}
 use Rattle.put.proofs.Writing.{then}
-use Rattle.sheet_text.specs.Sheet.{heightLine, gpsSpotLine}
+use Rattle.sheet_text.specs.Sheet.{height_line, gps_spot_line}
 use Rattle.sheet_text.proofs.gps.put_spot_line.Statement.{statement}
 use Rattle.sheet_text.proofs.gps.put_spot_line.Tie as tie
 
-pub put-spot-line-spec : {M : Type 1} → statement M
-unfolding gpsSpotLine heightLine
-put-spot-line-spec =
+pub put_spot_line_spec : {M : Type 1} → statement M
+unfolding gps_spot_line height_line
+put_spot_line_spec =
     tie.close
     (tie.spec
-    (search needs) (search needs) (search needs) (search needs)
+    (search rules) (search rules) (search rules) (search rules)
     (λ c. search (then)))

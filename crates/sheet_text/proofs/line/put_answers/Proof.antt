@@ -1,31 +1,31 @@
 use Rattle.text.specs.Prelude.{◌-◌, ◌≤◌, ◌≡◌, length, take}
-use Rattle.text.proofs.Prelude.{needs, arith, take_all}
+use Rattle.text.proofs.Prelude.{rules, arith, take_all}
 use Rattle.put.specs.Put.{Wrote}
-use Rattle.put.proofs.Writing.{wrote-length, wrote_nothing}
-use Rattle.sheet_text.specs.Sheet.{answerLines}
-use Rattle.sheet_text.proofs.Rows.{in-turn}
+use Rattle.put.proofs.Writing.{wrote_length, wrote_nothing}
+use Rattle.sheet_text.specs.Sheet.{answer_lines}
+use Rattle.sheet_text.proofs.Rows.{in_turn}
 use Rattle.sheet_text.proofs.line.put_answers.Statement.{statement}
 use Rattle.sheet_text.proofs.line.put_answers.Tie as tie
 
 -- the lines of the first i counts are written
 abbrev invariant-loop : tie.invariant-loop
-invariant-loop buf₀ at answers next₀ i₀ buf next i = (i ≤ 13) × Wrote buf₀ at (answerLines 0 (take i answers)) buf next
+invariant-loop buf₀ at answers next₀ i₀ buf next i = (i ≤ 13) × Wrote buf₀ at (answer_lines 0 (take i answers)) buf next
 
 abbrev decreases-loop : tie.decreases-loop
 decreases-loop buf₀ at answers next₀ i₀ buf next i = 13 - i
 
 wide : (c : tie.Start invariant-loop decreases-loop) → length c.args.t3 ≡ 13
-wide c = search needs
+wide c = search rules
 
 starts : tie.Need-loop-init invariant-loop decreases-loop
-unfolding answerLines
+unfolding answer_lines
 starts c = (omega arith, wrote_nothing _ _ (omega arith) (omega arith))
 
 again : tie.Need-loop-preserved invariant-loop decreases-loop
 again c =
     let l = c.before.before.before.before.before in (
       omega arith,
-      in-turn l.loop.i _ (omega (arith, wide l.before.before)) l.loop.invariant.1
+      in_turn l.loop.i _ (omega (arith, wide l.before.before)) l.loop.invariant.1
           c.before.before.put-answer.ensures,
     )
 
@@ -35,14 +35,14 @@ ends c =
     let s = l.before.before in
     rw (take_all l.loop.i s.args.t3 (omega (arith, wide s))) at l.loop.invariant.1
 
-pub put-answers-spec : {M : Type 1} → statement M
-put-answers-spec =
+pub put_answers_spec : {M : Type 1} → statement M
+put_answers_spec =
     tie.close
     (tie.spec
     invariant-loop
     decreases-loop
     starts
-    (search needs) (search needs) (search needs) (search needs) (search needs)
+    (search rules) (search rules) (search rules) (search rules) (search rules)
     again
-    (λ c. wrote-length c.before.loop.invariant.1)
+    (λ c. wrote_length c.before.loop.invariant.1)
     ends)

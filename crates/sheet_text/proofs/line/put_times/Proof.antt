@@ -1,25 +1,25 @@
-use Rattle.text.proofs.Prelude.{needs}
+use Rattle.text.proofs.Prelude.{rules}
 use Rattle.put.proofs.Writing.{then}
-use Rattle.text.specs.Spelt.{speltFrom, spelt}
-use Rattle.sheet_text.specs.Sheet.{noneLine, timeLines}
+use Rattle.text.specs.Spelt.{spelt_from, spelt}
+use Rattle.sheet_text.specs.Sheet.{none_line, time_lines}
 use Rattle.sheet_text.proofs.line.put_times.Statement.{statement}
 use Rattle.sheet_text.proofs.line.put_times.Tie as tie
 
 missing : tie.Need-returns
-unfolding timeLines noneLine spelt speltFrom
-missing c = let e : tie.After-enum-told = search needs in rw e.enum_told.given.1
+unfolding time_lines none_line spelt spelt_from
+missing c = let e : tie.After-enum-told = search rules in rw e.enum_told.given.1
     c.before.before.put-bytes.ensures
 
 there : tie.Need-returns-2
-unfolding timeLines spelt speltFrom
-there c = let e : tie.After-times = search needs in rw e.times.given.1 (search (then))
+unfolding time_lines spelt spelt_from
+there c = let e : tie.After-times = search rules in rw e.times.given.1 (search (then))
 
-pub put-times-spec : {M : Type 1} → statement M
-put-times-spec =
+pub put_times_spec : {M : Type 1} → statement M
+put_times_spec =
     tie.close
     (tie.spec
-    (search needs) (search needs) (search needs) (search needs) (search needs) (search needs)
-    (search needs) (search needs) (search needs) (search needs) (search needs)
+    (search rules) (search rules) (search rules) (search rules) (search rules) (search rules)
+    (search rules) (search rules) (search rules) (search rules) (search rules)
     missing
-    (search needs)
+    (search rules)
     there)

@@ -1,25 +1,25 @@
-use Rattle.text.proofs.Prelude.{needs}
+use Rattle.text.proofs.Prelude.{rules}
 use Rattle.put.proofs.Writing.{then}
-use Rattle.text.specs.Spelt.{speltFrom, spelt}
-use Rattle.sheet_text.specs.Sheet.{noneLine, rangeLines}
+use Rattle.text.specs.Spelt.{spelt_from, spelt}
+use Rattle.sheet_text.specs.Sheet.{none_line, range_lines}
 use Rattle.sheet_text.proofs.pressure.put_span.Statement.{statement}
 use Rattle.sheet_text.proofs.pressure.put_span.Tie as tie
 
 missing : tie.Need-returns
-unfolding rangeLines noneLine spelt speltFrom
-missing c = let e : tie.After-enum-told = search needs in rw e.enum_told.given.1
+unfolding range_lines none_line spelt spelt_from
+missing c = let e : tie.After-enum-told = search rules in rw e.enum_told.given.1
     c.before.before.put-bytes.ensures
 
 there : tie.Need-returns-2
-unfolding rangeLines spelt speltFrom
-there c = let e : tie.After-span = search needs in rw e.span.given.1 (search (then))
+unfolding range_lines spelt spelt_from
+there c = let e : tie.After-span = search rules in rw e.span.given.1 (search (then))
 
-pub put-span-spec : {M : Type 1} → statement M
-put-span-spec =
+pub put_span_spec : {M : Type 1} → statement M
+put_span_spec =
     tie.close
     (tie.spec
-    (search needs) (search needs) (search needs) (search needs) (search needs) (search needs)
-    (search needs) (search needs) (search needs)
+    (search rules) (search rules) (search rules) (search rules) (search rules) (search rules)
+    (search rules) (search rules) (search rules)
     missing
-    (search needs)
+    (search rules)
     there)

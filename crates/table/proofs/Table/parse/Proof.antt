@@ -1,71 +1,71 @@
-use Rattle.text.specs.Prelude.{ℕ, ◌≤◌, ◌≡◌, true, List, length, now, ok, no, byte, cut, columns, readNat}
-use Rattle.text.proofs.Prelude.{needs, arith, refl, ap, ◌∙◌, length-drop, length-take, came, on, off, found_in}
-use Rattle.text.proofs.Prelude.{refused-in, pass, stop, yes≤}
-use Rattle.text.proofs.Prelude.{no≤, yes=, no=, so-true, so_false}
-use Rattle.text.specs.Number.{u8Res}
-use Rattle.field.specs.Field.{isAscii, asciiIn, ascii}
-use Rattle.table.specs.Table.{isTable, read_body, readTable, tableRead}
-use Rattle.table.proofs.Counts.{two-characters}
+use Rattle.text.specs.Prelude.{ℕ, ◌≤◌, ◌≡◌, true, List, length, ok, no, byte, cut, columns, read_nat_of}
+use Rattle.text.proofs.Prelude.{rules, arith, refl, ap, ◌∙◌, length-drop, length-take, came, on, off, found_in}
+use Rattle.text.proofs.Prelude.{refused_in, pass, stop, yes≤}
+use Rattle.text.proofs.Prelude.{no≤, yes=, no=, so_true, so_false}
+use Rattle.text.specs.Number.{u8_res}
+use Rattle.field.specs.Field.{is_ascii_of, ascii_in, ascii}
+use Rattle.table.specs.Table.{is_table_of, read_body, read_table, table_read}
+use Rattle.table.proofs.Counts.{two_characters}
 use Rattle.table.proofs.Table.parse.Statement.{statement}
 use Rattle.table.proofs.Table.parse.Tie as tie
 
 abbrev line : tie.Start → List ℕ
-line b = now b.args.line
+line b = b.args.line.now
 
-long : (c : tie.Else1) → 3 ≤ length (line (search needs))
+long : (c : tie.Else1) → 3 ≤ length (line (search rules))
 long c = c.if1.false
 
-lettered : (c : tie.Else2) → isTable (byte 0 (line (search needs))) ≡ true
-lettered c = so-true c.before.is-table.ensures c.if2.false
+lettered : (c : tie.Else2) → is_table_of (byte 0 (line (search rules))) ≡ true
+lettered c = so_true c.before.is-table.ensures c.if2.false
 
-plain : (c : tie.Else3) → isAscii (line (search needs)) ≡ true
-plain c = so-true c.before.is_ascii.ensures c.if3.false
+plain : (c : tie.Else3) → is_ascii_of (line (search rules)) ≡ true
+plain c = so_true c.before.is_ascii.ensures c.if3.false
 
-count : (c : tie.After-count) → ok c.count.given.0.0 ≡ columns 1 3 (readNat 255) (line (search needs))
+count : (c : tie.After-count) → ok c.count.given.0.0 ≡ columns 1 3 (read_nat_of 255) (line (search rules))
 unfolding columns cut
-count c = found_in 1 (came u8Res c.count.given.1 c.before.before.read-u8.ensures)
+count c = found_in 1 (came u8_res c.count.given.1 c.before.before.read-u8.ensures)
 
-no-count : (c : tie.After-moved) → no c.moved.result ≡ columns 1 3 (readNat 255) (line (search needs))
+no_count : (c : tie.After-moved) → no c.moved.result ≡ columns 1 3 (read_nat_of 255) (line (search rules))
 unfolding columns cut
-no-count c = refused-in 1 (came u8Res c.before.before.no-count.given.1
+no_count c = refused_in 1 (came u8_res c.before.before.no-count.given.1
     c.before.before.before.before.read-u8.ensures) c.moved.ensures
 
-at-most-99 : (c : tie.After-count) → c.count.given.0.0 ≤ 99
+at_most_99 : (c : tie.After-count) → c.count.given.0.0 ≤ 99
 unfolding columns cut
-at-most-99 c = two-characters 255 (cut 1 3 (line (search needs))) (simp (length-take, length-drop) (omega arith))
-    (came u8Res c.count.given.1 c.before.before.read-u8.ensures)
+at_most_99 c = two_characters 255 (cut 1 3 (line (search rules))) (simp (length-take, length-drop) (omega arith))
+    (came u8_res c.count.given.1 c.before.before.read-u8.ensures)
 
 fits : tie.Need-parse-defs-requires
-fits c κs = (at-most-99 (search needs), search needs)
+fits c κs = (at_most_99 (search rules), search rules)
 
-pub parse-spec : {M : Type 1} → statement M
-unfolding readTable read_body ascii asciiIn columns cut
-parse-spec =
+pub parse_spec : {M : Type 1} → statement M
+unfolding read_table read_body ascii ascii_in columns cut
+parse_spec =
     tie.close
     (tie.spec
-    (search needs)
-    (λ c. c.refused.ensures ∙ ap tableRead (stop _ (no≤ (search needs))))
-    (search needs) (search needs) (search needs)
-    (λ c. c.refused2.ensures ∙ ap tableRead
-    (pass _ (yes≤ (long (search needs)))
+    (search rules)
+    (λ c. c.refused.ensures ∙ ap table_read (stop _ (no≤ (search rules))))
+    (search rules) (search rules) (search rules)
+    (λ c. c.refused2.ensures ∙ ap table_read
+    (pass _ (yes≤ (long (search rules)))
     (stop _ (so_false c.before.before.is-table.ensures c.before.if2.true))))
-    (search needs) (search needs)
-    (λ c. c.refused3.ensures ∙ ap tableRead
-    (pass _ (yes≤ (long (search needs)))
-    (pass _ (lettered (search needs))
+    (search rules) (search rules)
+    (λ c. c.refused3.ensures ∙ ap table_read
+    (pass _ (yes≤ (long (search rules)))
+    (pass _ (lettered (search rules))
     (stop _ (so_false c.before.before.is_ascii.ensures c.before.if3.true)))))
-    (search needs) (search needs) (search needs) (search needs) (search needs) (search needs) (search needs)
-    (search needs) (search needs)
-    (λ c. c.refused4.ensures ∙ ap tableRead
-    (pass _ (yes≤ (long (search needs)))
-    (pass _ (lettered (search needs))
-    (pass _ (plain (search needs)) (on _ (count (search needs)) (stop _ (no= (search needs))))))))
+    (search rules) (search rules) (search rules) (search rules) (search rules) (search rules) (search rules)
+    (search rules) (search rules)
+    (λ c. c.refused4.ensures ∙ ap table_read
+    (pass _ (yes≤ (long (search rules)))
+    (pass _ (lettered (search rules))
+    (pass _ (plain (search rules)) (on _ (count (search rules)) (stop _ (no= (search rules))))))))
     fits
-    (search needs) (search needs) (search needs)
-    (λ c. c.parse-defs.ensures ∙ ap tableRead
-    (pass _ (yes≤ (long (search needs)))
-    (pass _ (lettered (search needs))
-    (pass _ (plain (search needs)) (on _ (count (search needs)) (pass _ (yes= (search needs)) refl))))))
-    (λ c. c.refused5.ensures ∙ ap tableRead
-    (pass _ (yes≤ (long (search needs)))
-    (pass _ (lettered (search needs)) (pass _ (plain (search needs)) (off _ (no-count (search needs))))))))
+    (search rules) (search rules) (search rules)
+    (λ c. c.parse-defs.ensures ∙ ap table_read
+    (pass _ (yes≤ (long (search rules)))
+    (pass _ (lettered (search rules))
+    (pass _ (plain (search rules)) (on _ (count (search rules)) (pass _ (yes= (search rules)) refl))))))
+    (λ c. c.refused5.ensures ∙ ap table_read
+    (pass _ (yes≤ (long (search rules)))
+    (pass _ (lettered (search rules)) (pass _ (plain (search rules)) (off _ (no_count (search rules))))))))

@@ -1,8 +1,8 @@
 use Rattle.text.specs.Prelude.{◌-◌}
-use Rattle.text.proofs.Prelude.{needs, arith, ap, came}
-use Rattle.extension.specs.Extension.{extensionRes}
-use Rattle.table.specs.Table.{table_of, tableRead}
-use Rattle.table.proofs.Defs.{Turn, turn-start, turn-refuses, turn-next, turn-done}
+use Rattle.text.proofs.Prelude.{rules, arith, ap, came}
+use Rattle.extension.specs.Extension.{extension_res}
+use Rattle.table.specs.Table.{table_of, table_read}
+use Rattle.table.proofs.Defs.{Turn, turn_start, turn_refuses, turn_next, turn_done}
 use Rattle.table.proofs.Table.parse_defs.Statement.{statement}
 use Rattle.table.proofs.Table.parse_defs.Tie as tie
 
@@ -14,40 +14,40 @@ decreases-loop body n none table₀ k i₀ table i = n - i
 
 loop-holds : tie.Need-loop-init invariant-loop decreases-loop
 unfolding table_of
-loop-holds c = rw c.new.ensures (turn-start _ _)
+loop-holds c = rw c.new.ensures (turn_start _ _)
 
 bad : tie.Need-returns invariant-loop decreases-loop
-unfolding tableRead
+unfolding table_read
 bad c =
-    let b : tie.After-bad invariant-loop decreases-loop = search needs in
-    let p : tie.After-parse invariant-loop decreases-loop = search needs in
-    let m : tie.After-moved invariant-loop decreases-loop = search needs in
+    let b : tie.After-bad invariant-loop decreases-loop = search rules in
+    let p : tie.After-parse invariant-loop decreases-loop = search rules in
+    let m : tie.After-moved invariant-loop decreases-loop = search rules in
     let l = c.before.before.before.before.before.before.before.loop in
     rw c.before.before.before.before.before.before.before.before.new.ensures
-    (ap tableRead (turn-refuses _ _ l.i _ l.invariant (search needs)
-    (came extensionRes b.bad.given.1 p.parse.ensures) m.moved.ensures))
+    (ap table_read (turn_refuses _ _ l.i _ l.invariant (search rules)
+    (came extension_res b.bad.given.1 p.parse.ensures) m.moved.ensures))
 
 loop-again : tie.Need-loop-preserved invariant-loop decreases-loop
 loop-again c =
     let l = c.before.before.before.before.before.before.loop in
-    turn-next _ _ l.i _ l.invariant (search needs) (search needs)
-    (came extensionRes c.before.def.given.1 c.before.before.before.parse.ensures)
+    turn_next _ _ l.i _ l.invariant (search rules) (search rules)
+    (came extension_res c.before.def.given.1 c.before.before.before.parse.ensures)
 
 ends : tie.Need-returns-2 invariant-loop decreases-loop
-ends c = turn-done _ _ _ _ c.before.loop.invariant (search needs)
+ends c = turn_done _ _ _ _ c.before.loop.invariant (search rules)
 
-pub parse-defs-spec : {M : Type 1} → statement M
-parse-defs-spec =
+pub parse_defs_spec : {M : Type 1} → statement M
+parse_defs_spec =
     tie.close
     (tie.spec
     invariant-loop
     decreases-loop
-    (search needs)
+    (search rules)
     loop-holds
-    (search needs) (search needs) (search needs) (search needs)
+    (search rules) (search rules) (search rules) (search rules)
     (λ c. omega (arith, c.before.loop.invariant.inside))
-    (search needs) (search needs) (search needs) (search needs) (search needs) (search needs) (search needs)
+    (search rules) (search rules) (search rules) (search rules) (search rules) (search rules) (search rules)
     bad
-    (search needs) (search needs)
+    (search rules) (search rules)
     loop-again
     ends)

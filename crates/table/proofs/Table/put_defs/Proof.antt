@@ -1,38 +1,38 @@
 use Rattle.text.specs.Prelude.{◌-◌, ◌≤◌, ◌≡◌, length, take}
-use Rattle.text.proofs.Prelude.{needs, arith}
+use Rattle.text.proofs.Prelude.{rules, arith}
 use Rattle.put.specs.Put.{Wrote}
-use Rattle.put.proofs.Writing.{wrote-length, wrote_nothing}
-use Rattle.table.specs.Table.{defsText, defsOf}
-use Rattle.table.proofs.Defs.{defs-then, defs-counted, long-under}
+use Rattle.put.proofs.Writing.{wrote_length, wrote_nothing}
+use Rattle.table.specs.Table.{defs_text, defs_of}
+use Rattle.table.proofs.Defs.{defs_then, defs_counted, long_under}
 use Rattle.table.proofs.Table.put_defs.Statement.{statement}
 use Rattle.table.proofs.Table.put_defs.Tie as tie
 
 -- the first i definitions are written
 abbrev invariant-loop : tie.invariant-loop
-invariant-loop buf₀ at self n next₀ i₀ buf next i = (i ≤ n) × Wrote buf₀ at (defsText (take i self.defs)) buf next
+invariant-loop buf₀ at self n next₀ i₀ buf next i = (i ≤ n) × Wrote buf₀ at (defs_text (take i self.defs)) buf next
 
 abbrev decreases-loop : tie.decreases-loop
 decreases-loop buf₀ at self n next₀ i₀ buf next i = n - i
 
 loop-holds : tie.Need-loop-init invariant-loop decreases-loop
-unfolding defsText
+unfolding defs_text
 loop-holds c = (omega arith, wrote_nothing _ _ (omega arith) (omega arith))
 
 loop-again : tie.Need-loop-preserved invariant-loop decreases-loop
 loop-again c =
     let o = c.before.before.before.before.before.before in
     let a = o.before.before.before.args.t1.defs in
-    let n : length a ≡ 99 = search (needs, long-under) in
-    (omega arith, defs-then a o.loop.i _ (omega arith) o.loop.invariant.1 c.before.before.put.ensures)
+    let n : length a ≡ 99 = search (rules, long_under) in
+    (omega arith, defs_then a o.loop.i _ (omega arith) o.loop.invariant.1 c.before.before.put.ensures)
 
 ends : tie.Need-returns invariant-loop decreases-loop
-unfolding defsOf
+unfolding defs_of
 ends c =
     let t = c.before.before.before.before.args.t1 in
-    let n : length t.defs ≡ 99 = search (needs, long-under) in
-    rw (defs-counted t.defs c.before.loop.i t.count (omega arith)) at c.before.loop.invariant.1
+    let n : length t.defs ≡ 99 = search (rules, long_under) in
+    rw (defs_counted t.defs c.before.loop.i t.count (omega arith)) at c.before.loop.invariant.1
 
-pub put-defs-spec : {M : Type 1} → statement M
-put-defs-spec =
-    tie.close (tie.spec invariant-loop decreases-loop (search needs) loop-holds (search needs) (search needs) (search needs)
-    (search needs) (search needs) loop-again (λ c. wrote-length c.before.loop.invariant.1) ends)
+pub put_defs_spec : {M : Type 1} → statement M
+put_defs_spec =
+    tie.close (tie.spec invariant-loop decreases-loop (search rules) loop-holds (search rules) (search rules) (search rules)
+    (search rules) (search rules) loop-again (λ c. wrote_length c.before.loop.invariant.1) ends)

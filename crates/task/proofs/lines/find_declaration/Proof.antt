@@ -5,16 +5,16 @@ use mathlib.Core.Path.{refl, ◌∙◌}
 use mir.Syntax.{w8}
 use mir.Val.{SFits}
 use mir.Facts.{to_z-of_z}
-use Rattle.task_line.specs.Lines.{taskLines}
-use Rattle.task.specs.Sheet.{firstDeclaration}
-use Rattle.task.proofs.Turns.{no-declaration, declared-here, declared-later}
+use Rattle.task_line.specs.Lines.{task_lines}
+use Rattle.task.specs.Sheet.{first_declaration}
+use Rattle.task.proofs.Turns.{no_declaration, declared_here, declared_later}
 use Rattle.task.proofs.lines.find_declaration.Statement.{statement}
 use Rattle.task.proofs.lines.find_declaration.Tie as tie
 
 -- the first declaration from here on is the one that is looked for
 abbrev invariant-loop : tie.invariant-loop
 invariant-loop log from place₀ place =
-    firstDeclaration (taskLines (drop place log)) ≡ firstDeclaration (taskLines (drop from log))
+    first_declaration (task_lines (drop place log)) ≡ first_declaration (task_lines (drop from log))
 
 abbrev decreases-loop : tie.decreases-loop
 decreases-loop log from place₀ place = length log - place
@@ -26,7 +26,7 @@ here c =
     let test = seen.before in
     let fits : SFits w8 count.kind.given.0.0 = search rules in
     rw (to_z-of_z fits)
-    (declared-here _ _ seen.line-at.ensures test.loop-test.true count.kind.given.1
+    (declared_here _ _ seen.line-at.ensures test.loop-test.true count.kind.given.1
     ∙ test.before.loop.invariant)
 
 less : tie.Need-loop-smaller invariant-loop decreases-loop
@@ -39,12 +39,12 @@ later : tie.Need-loop-preserved invariant-loop decreases-loop
 later c =
     let seen = c.before in
     let test = seen.before in
-    declared-later _ _ seen.line-at.ensures test.loop-test.true c.match.keys2 ∙ test.before.loop.invariant
+    declared_later _ _ seen.line-at.ensures test.loop-test.true c.match.keys2 ∙ test.before.loop.invariant
 
 past : tie.Need-returns-2 invariant-loop decreases-loop
-past c = no-declaration _ _ c.loop-test.false ∙ c.before.loop.invariant
+past c = no_declaration _ _ c.loop-test.false ∙ c.before.loop.invariant
 
-pub find-declaration-spec : {M : Type 1} → statement M
-find-declaration-spec =
+pub find_declaration_spec : {M : Type 1} → statement M
+find_declaration_spec =
     tie.close
     (tie.spec invariant-loop decreases-loop (λ c. refl) (search rules) (search rules) here less later past)

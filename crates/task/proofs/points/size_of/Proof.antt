@@ -24,14 +24,14 @@ record NotBelow (z : ℤ) : Type 0 where
   small : nat_abs z < 128
   points : Size.Points (nat_abs z + 4) ≡ size_of z
 
-not-below : (z : ℤ) → SFits w8 z → lt_z z (pos 0) ≡ false → NotBelow z
+not_below : (z : ℤ) → SFits w8 z → lt_z z (pos 0) ≡ false → NotBelow z
 unfolding size_of
-not-below (pos n) f t = record { natural = tt; small = f.sfits; points = refl }
-not-below (negsuc k) f t = absurd (subst T t tt)
+not_below (pos n) f t = record { natural = tt; small = f.sfits; points = refl }
+not_below (negsuc k) f t = absurd (subst T t tt)
 
-at-else : (c : tie.Else1) → NotBelow c.before.args.count
-at-else c =
-    not-below c.before.args.count c.before.ranges.count
+at_else : (c : tie.Else1) → NotBelow c.before.args.count
+at_else c =
+    not_below c.before.args.count c.before.ranges.count
     (rw (to_z-of_z c.before.ranges.count) at c.if1.false)
 
 returns : tie.Need-returns
@@ -39,14 +39,14 @@ returns c = below _ (rw (to_z-of_z c.before.ranges.count) at c.if1.true)
 
 cast : tie.Need-overflow-cast-t3
 cast c =
-    let n = at-else c in
+    let n = at_else c in
     rw (to_z-of_z c.before.ranges.count) (n.natural, record { fits = omega (arith, n.small) })
 
 add : tie.Need-overflow-add-t4
-add c = let n = at-else c in rw (to_z-of_z c.before.ranges.count) (record { fits = omega (arith, n.small) })
+add c = let n = at_else c in rw (to_z-of_z c.before.ranges.count) (record { fits = omega (arith, n.small) })
 
 returns-2 : tie.Need-returns-2
-returns-2 c = rw (to_z-of_z c.before.ranges.count) (at-else c).points
+returns-2 c = rw (to_z-of_z c.before.ranges.count) (at_else c).points
 
-pub size-of-spec : {M : Type 1} → statement M
-size-of-spec = tie.close (tie.spec returns cast add returns-2)
+pub size_of_spec : {M : Type 1} → statement M
+size_of_spec = tie.close (tie.spec returns cast add returns-2)

@@ -1,50 +1,50 @@
 use Rattle.text.specs.Prelude.{◌+◌, ◌-◌, ◌≤◌, ◌≡◌, length, drop}
-use Rattle.text.proofs.Prelude.{needs, arith, refl}
-use Rattle.text.specs.Number.{overIn}
-use Rattle.text.proofs.Reading.{over-below-0, over-above-9, over-next, over_done}
+use Rattle.text.proofs.Prelude.{rules, arith, refl}
+use Rattle.text.specs.Number.{over_in}
+use Rattle.text.proofs.Reading.{over_below_0, over_above_9, over_next, over_done}
 use Rattle.text.proofs.number.too_large.Statement.{statement}
 use Rattle.text.proofs.number.too_large.Tie as tie
 
 -- what is left to say, from here, is the whole
 abbrev invariant-loop : tie.invariant-loop
 invariant-loop text from sign i₀ i = (i ≤ length text)
-    × (overIn (sign + i) (drop i text) ≡ overIn (sign + from) (drop from text))
+    × (over_in (sign + i) (drop i text) ≡ over_in (sign + from) (drop from text))
 
 abbrev decreases-loop : tie.decreases-loop
 decreases-loop text from sign i₀ i = length text - i
 
 loop-holds : tie.Need-loop-init invariant-loop decreases-loop
-loop-holds c = (search needs, refl)
+loop-holds c = (search rules, refl)
 
-too-low : tie.Need-returns invariant-loop decreases-loop
-too-low c = over-below-0 _ _ _ _ _ (search needs) c.before.wide.ensures
-    c.before.before.before.before.loop.invariant.1 (search needs)
+too_low : tie.Need-returns invariant-loop decreases-loop
+too_low c = over_below_0 _ _ _ _ _ (search rules) c.before.wide.ensures
+    c.before.before.before.before.loop.invariant.1 (search rules)
 
-too-high : tie.Need-returns-2 invariant-loop decreases-loop
-too-high c = over-above-9 _ _ _ _ _ (search needs) c.before.before.wide.ensures
-    c.before.before.before.before.before.loop.invariant.1 (search needs) (search needs)
+too_high : tie.Need-returns-2 invariant-loop decreases-loop
+too_high c = over_above_9 _ _ _ _ _ (search rules) c.before.before.wide.ensures
+    c.before.before.before.before.before.loop.invariant.1 (search rules) (search rules)
 
 again : tie.Need-loop-preserved invariant-loop decreases-loop
 again c = (
-  search needs,
-  over-next _ _ _ _ _ (search needs) c.before.before.wide.ensures
-      c.before.before.before.before.before.loop.invariant.1 (search needs) (search needs),
+  search rules,
+  over_next _ _ _ _ _ (search rules) c.before.before.wide.ensures
+      c.before.before.before.before.before.loop.invariant.1 (search rules) (search rules),
 )
 
 ends : tie.Need-returns-3 invariant-loop decreases-loop
-ends c = over_done _ _ _ c.before.loop.i (search needs) c.before.loop.invariant.1
+ends c = over_done _ _ _ c.before.loop.i (search rules) c.before.loop.invariant.1
 
-pub too-large-spec : {M : Type 1} → statement M
-too-large-spec =
+pub too_large_spec : {M : Type 1} → statement M
+too_large_spec =
     tie.close
     (tie.spec
     invariant-loop
     decreases-loop
     loop-holds
-    (search needs) (search needs) (search needs)
-    too-low
-    (search needs)
-    too-high
-    (search needs) (search needs)
+    (search rules) (search rules) (search rules)
+    too_low
+    (search rules)
+    too_high
+    (search rules) (search rules)
     again
     ends)

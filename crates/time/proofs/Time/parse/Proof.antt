@@ -1,16 +1,16 @@
-use Rattle.text.proofs.Prelude.{needs, ◌∙◌, so-true, so_false}
-use Rattle.field.proofs.Fields.{wrong-length, not_ascii, field-of-ascii}
-use Rattle.time.specs.Time.{readTime, timeIn}
+use Rattle.text.proofs.Prelude.{rules, ◌∙◌, so_true, so_false}
+use Rattle.field.proofs.Fields.{wrong_length, not_ascii, field_of_ascii}
+use Rattle.time.specs.Time.{read_time_of, time_in}
 use Rattle.time.proofs.Time.parse.Statement.{statement}
 use Rattle.time.proofs.Time.parse.Tie as tie
 
-pub parse-spec : {M : Type 1} → statement M
-unfolding readTime timeIn
-parse-spec =
+pub parse_spec : {M : Type 1} → statement M
+unfolding read_time_of time_in
+parse_spec =
     tie.close
     (tie.spec
-    (λ c. wrong-length _ _ _ (search needs))
-    (search needs)
-    (λ c. not_ascii _ _ _ (search needs) (search (so_false)))
-    (search needs)
-    (λ c. c.parse-ascii.ensures ∙ field-of-ascii _ _ _ (search (so-true))))
+    (λ c. wrong_length _ _ _ (search rules))
+    (search rules)
+    (λ c. not_ascii _ _ _ (search rules) (search (so_false)))
+    (search rules)
+    (λ c. c.parse-ascii.ensures ∙ field_of_ascii _ _ _ (search (so_true))))

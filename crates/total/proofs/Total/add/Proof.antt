@@ -1,5 +1,5 @@
-use Rattle.text.proofs.Prelude.{needs}
-use Rattle.total.proofs.Adding.{log-added, log-stays}
+use Rattle.text.proofs.Prelude.{rules}
+use Rattle.total.proofs.Adding.{log_added, log_stays}
 use Rattle.total.proofs.Total.add.Statement.{statement}
 use Rattle.total.proofs.Total.add.Tie as tie
 
@@ -7,11 +7,11 @@ pub add_spec : {M : Type 1} → statement M
 add_spec =
     tie.close
     (tie.spec
-    (search needs)
-    (search needs)
-    (search needs)
-    (search needs)
+    (search rules)
+    (search rules)
+    (search rules)
+    (search rules)
     (λ c. let join = c.before.before.before in
-    log-added _ _ (rw (c.enum_told.given.1, join.before.of-log.ensures) at join.join.ensures))
+    log_added _ _ (rw (c.enum_told.given.1, join.before.of-log.ensures) at join.join.ensures))
     (λ c. let join = c.before.before.before in
-    log-stays _ _ (rw (c.enum-told2.given.1, join.before.of-log.ensures) at join.join.ensures)))
+    log_stays _ _ (rw (c.enum-told2.given.1, join.before.of-log.ensures) at join.join.ensures)))

@@ -1,10 +1,10 @@
 use Rattle.text.proofs.Prelude.{refl}
-use Rattle.report.specs.Counts.{from, byNumber}
+use Rattle.report.specs.Counts.{from, by_number}
 use Rattle.report.specs.Figures.{empty}
-use Rattle.total.specs.Total.{noLogs}
+use Rattle.total.specs.Total.{no_logs}
 use Rattle.total.proofs.Total.new.Statement.{statement}
 use Rattle.total.proofs.Total.new.Tie as tie
 
 pub new_spec : {M : Type 1} → statement M
-unfolding noLogs empty byNumber from
+unfolding no_logs empty by_number from
 new_spec = tie.close (tie.spec (λ c. refl))

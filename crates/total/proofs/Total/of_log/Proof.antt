@@ -1,10 +1,10 @@
-use Rattle.text.proofs.Prelude.{needs}
-use Rattle.total.specs.Total.{oneLog, inLog}
+use Rattle.text.proofs.Prelude.{rules}
+use Rattle.total.specs.Total.{one_log, in_log_of}
 use Rattle.total.proofs.Total.of_log.Statement.{statement}
 use Rattle.total.proofs.Total.of_log.Tie as tie
 
-pub of-log-spec : {M : Type 1} → statement M
-unfolding oneLog inLog
-of-log-spec =
+pub of_log_spec : {M : Type 1} → statement M
+unfolding one_log in_log_of
+of_log_spec =
     tie.close
-    (tie.spec (search needs) (search needs) (λ c. rw (c.before.in-log.ensures, c.in-log2.ensures)))
+    (tie.spec (search rules) (search rules) (λ c. rw (c.before.in-log.ensures, c.in-log2.ensures)))

@@ -1,13 +1,13 @@
 use Rattle.text.specs.Prelude.{pick}
-use Rattle.text.proofs.Prelude.{needs, arith, refl, sym, ◌∙◌, first, second, yes≤, no≤, holds, fails}
+use Rattle.text.proofs.Prelude.{rules, arith, refl, sym, ◌∙◌, first, second, yes≤, no≤, holds, fails}
 use native.Mathlib.Nat.{add-zero}
 use Rattle.trailer_text.specs.Trailer.{counted, tallied}
 use Rattle.trailer_text.proofs.Trailer.after.Statement.{statement}
 use Rattle.trailer_text.proofs.Trailer.after.Tie as tie
 
-lines-full : tie.Need-returns
+lines_full : tie.Need-returns
 unfolding tallied
-lines-full c = second _ (fails _ (no≤ (omega arith))) refl
+lines_full c = second _ (fails _ (no≤ (omega arith))) refl
 
 refused_full : tie.Need-returns-2
 unfolding tallied
@@ -29,6 +29,6 @@ taken c =
     first _ (holds (yes≤ (omega arith)) (yes≤ (omega arith)))
     (rw (sym asked.is-refusal.ensures ∙ c.if3.false, after.after.ensures, add-zero))
 
-pub after-spec : {M : Type 1} → statement M
-after-spec = tie.close (tie.spec lines-full refused_full (search needs) (search needs) (search needs) (search needs)
+pub after_spec : {M : Type 1} → statement M
+after_spec = tie.close (tie.spec lines_full refused_full (search rules) (search rules) (search rules) (search rules)
     refused taken)

@@ -1,11 +1,11 @@
-use Rattle.text.proofs.Prelude.{needs}
+use Rattle.text.proofs.Prelude.{rules}
 use Rattle.put.proofs.Writing.{then}
-use Rattle.trailer_text.specs.Trailer.{trailerText}
+use Rattle.trailer_text.specs.Trailer.{trailer_text_of}
 use Rattle.trailer_text.proofs.Trailer.put.Statement.{statement}
 use Rattle.trailer_text.proofs.Trailer.put.Tie as tie
 
 returns : tie.Need-returns
-unfolding trailerText
+unfolding trailer_text_of
 returns c =
     let lf = c.before.before in
     let offset = lf.before.before.before.before in
@@ -17,5 +17,5 @@ returns c =
     (then space.put-byte2.ensures (then offset.put.ensures lf.put-byte3.ensures)))
 
 pub put_spec : {M : Type 1} → statement M
-put_spec = tie.close (tie.spec (search needs) (search needs) (search needs) (search needs) (search needs) (search needs)
+put_spec = tie.close (tie.spec (search rules) (search rules) (search rules) (search rules) (search rules) (search rules)
     returns)

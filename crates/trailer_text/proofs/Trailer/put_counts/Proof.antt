@@ -1,4 +1,4 @@
-use Rattle.text.proofs.Prelude.{needs}
+use Rattle.text.proofs.Prelude.{rules}
 use Rattle.put.proofs.Writing.{then}
 use Rattle.trailer_text.specs.Answer.{plain}
 use Rattle.trailer_text.specs.Trailer.{figures}
@@ -15,6 +15,6 @@ returns c =
     then first.put_byte.ensures
     (then lines.put-nat.ensures (then second.put-byte2.ensures refused.put-nat2.ensures))
 
-pub put-counts-spec : {M : Type 1} → statement M
-put-counts-spec =
-    tie.close (tie.spec (search needs) (search needs) (search needs) (search needs) (search needs) returns)
+pub put_counts_spec : {M : Type 1} → statement M
+put_counts_spec =
+    tie.close (tie.spec (search rules) (search rules) (search rules) (search rules) (search rules) returns)

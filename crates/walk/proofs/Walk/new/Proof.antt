@@ -1,5 +1,5 @@
-use Rattle.text.proofs.Prelude.{needs}
-use Rattle.report.proofs.Answers.{report-is}
+use Rattle.text.proofs.Prelude.{rules}
+use Rattle.report.proofs.Answers.{report_is}
 use Rattle.walk.specs.Walk.{fresh}
 use Rattle.walk.proofs.Walk.new.Statement.{statement}
 use Rattle.walk.proofs.Walk.new.Tie as tie
@@ -8,7 +8,7 @@ made : tie.Need-returns
 unfolding fresh
 made c =
     let report = c.before.new2 in
-    rw (c.before.before.new.ensures, report-is report.result report.ensures, c.new3.ensures)
+    rw (c.before.before.new.ensures, report_is report.result report.ensures, c.new3.ensures)
 
 pub new_spec : {M : Type 1} → statement M
-new_spec = tie.close (tie.spec (search needs) (search needs) (search needs) made)
+new_spec = tie.close (tie.spec (search rules) (search rules) (search rules) made)

@@ -1,4 +1,4 @@
-use Rattle.text.proofs.Prelude.{needs}
+use Rattle.text.proofs.Prelude.{rules}
 use Rattle.walk.proofs.Turns.{got}
 use Rattle.walk.proofs.turn.read_at.Statement.{statement}
 use Rattle.walk.proofs.turn.read_at.Tie as tie
@@ -8,5 +8,5 @@ returns c =
     let view = c.before in
     got _ _ view.before.before.cut_at.ensures view.view.ensures.bytes c.parse-line.ensures
 
-pub read-at-spec : {M : Type 1} → statement M
-read-at-spec = tie.close (tie.spec (search needs) (search needs) (search needs) returns)
+pub read_at_spec : {M : Type 1} → statement M
+read_at_spec = tie.close (tie.spec (search rules) (search rules) (search rules) returns)

@@ -1,13 +1,13 @@
-use Rattle.text.proofs.Prelude.{needs}
+use Rattle.text.proofs.Prelude.{rules}
 use Rattle.claim.specs.Step.{is_yes}
 use Rattle.claim.proofs.verdict.Verdict.is_yes.Statement.{statement}
 use Rattle.claim.proofs.verdict.Verdict.is_yes.Tie as tie
 
-pub is-yes-spec : {M : Type 1} → statement M
+pub is_yes_spec : {M : Type 1} → statement M
 unfolding is_yes
-is-yes-spec =
+is_yes_spec =
     tie.close
     (tie.spec
-    (search needs) (search needs)
+    (search rules) (search rules)
     (λ c. rw c.enum_told.given.1)
     (λ c. rw c.enum-told2.given.1))

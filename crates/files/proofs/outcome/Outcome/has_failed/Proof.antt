@@ -1,14 +1,14 @@
-use Rattle.text.proofs.Prelude.{needs}
-use Rattle.files.specs.Outcome.{hasFailed}
+use Rattle.text.proofs.Prelude.{rules}
+use Rattle.files.specs.Outcome.{has_failed_of}
 use Rattle.files.proofs.outcome.Outcome.has_failed.Statement.{statement}
 use Rattle.files.proofs.outcome.Outcome.has_failed.Tie as tie
 
-pub has-failed-spec : {M : Type 1} → statement M
-unfolding hasFailed
-has-failed-spec =
+pub has_failed_spec : {M : Type 1} → statement M
+unfolding has_failed_of
+has_failed_spec =
     tie.close
     (tie.spec
-    (search needs) (search needs) (search needs) (search needs) (search needs) (search needs)
+    (search rules) (search rules) (search rules) (search rules) (search rules) (search rules)
     (λ c. rw c.enum_told.given.1)
     (λ c. rw c.enum-told2.given.1)
     (λ c. rw c.enum-told3.given.1)

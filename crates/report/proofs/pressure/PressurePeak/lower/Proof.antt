@@ -1,4 +1,4 @@
-use Rattle.text.proofs.Prelude.{needs, refl, sym, ◌∙◌, first, second}
+use Rattle.text.proofs.Prelude.{rules, refl, sym, ◌∙◌, first, second}
 use Rattle.report.specs.Range.{higher}
 use Rattle.report.proofs.pressure.PressurePeak.lower.Statement.{statement}
 use Rattle.report.proofs.pressure.PressurePeak.lower.Tie as tie
@@ -8,6 +8,6 @@ unfolding higher
 lower_spec =
     tie.close
     (tie.spec
-    (search needs)
+    (search rules)
     (λ c. first _ (sym c.before.below.ensures ∙ c.if1.true) refl)
     (λ c. second _ (sym c.before.below.ensures ∙ c.if1.false) refl))

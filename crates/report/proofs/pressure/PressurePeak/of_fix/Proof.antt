@@ -1,6 +1,6 @@
-use Rattle.text.proofs.Prelude.{needs}
+use Rattle.text.proofs.Prelude.{rules}
 use Rattle.report.proofs.pressure.PressurePeak.of_fix.Statement.{statement}
 use Rattle.report.proofs.pressure.PressurePeak.of_fix.Tie as tie
 
-pub of-fix-spec : {M : Type 1} → statement M
-of-fix-spec = tie.close (tie.spec (search needs))
+pub of_fix_spec : {M : Type 1} → statement M
+of_fix_spec = tie.close (tie.spec (search rules))

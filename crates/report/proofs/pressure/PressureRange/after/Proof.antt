@@ -1,16 +1,16 @@
-use Rattle.text.proofs.Prelude.{needs}
+use Rattle.text.proofs.Prelude.{rules}
 use Rattle.report.specs.Range.{joined}
 use Rattle.report.proofs.pressure.PressureRange.after.Statement.{statement}
 use Rattle.report.proofs.pressure.PressureRange.after.Tie as tie
 
-pub after-spec : {M : Type 1} → statement M
+pub after_spec : {M : Type 1} → statement M
 unfolding joined
-after-spec =
+after_spec =
     tie.close
     (tie.spec
-    (search needs)
-    (search needs)
-    (search needs)
-    (search needs)
+    (search rules)
+    (search rules)
+    (search rules)
+    (search rules)
     (λ c. rw c.enum_told.given.1)
     (λ c. rw (c.before.before.before.self.given.1, c.before.higher.ensures, c.lower.ensures)))

@@ -1,21 +1,21 @@
-use Rattle.text.proofs.Prelude.{needs, arith}
+use Rattle.text.proofs.Prelude.{rules, arith}
 use Rattle.reported.specs.Flat.{glanced}
 use Rattle.reported.proofs.flat.Flat.after.Statement.{statement}
 use Rattle.reported.proofs.flat.Flat.after.Tie as tie
 
-add-fixes : tie.Need-overflow-add-t14
-add-fixes c =
+add_fixes : tie.Need-overflow-add-t14
+add_fixes c =
     let time = c.before.before.before in
     let start = time.before.before.before.before.before.before.before.before in
     record { fits = omega (arith, c.before.one-if.ensures, start.requires.1) }
 
-pub after-spec : {M : Type 1} → statement M
+pub after_spec : {M : Type 1} → statement M
 unfolding glanced
-after-spec =
+after_spec =
     tie.close
     (tie.spec
-    (search needs) (search needs) (search needs) (search needs) (search needs)
-    add-fixes
+    (search rules) (search rules) (search rules) (search rules) (search rules)
+    add_fixes
     (λ c answers.
     let one = c.before in
     let time = one.before.before in

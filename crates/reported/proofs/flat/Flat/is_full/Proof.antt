@@ -1,12 +1,12 @@
 use Rattle.text.specs.Prelude.{◌∨?◌, pick}
-use Rattle.text.proofs.Prelude.{needs, sym, yes≤, no≤, tested}
-use Rattle.reported.specs.Flat.{fullBy}
+use Rattle.text.proofs.Prelude.{rules, sym, yes≤, no≤, tested}
+use Rattle.reported.specs.Flat.{full_by}
 use Rattle.reported.proofs.flat.Flat.is_full.Statement.{statement}
 use Rattle.reported.proofs.flat.Flat.is_full.Tie as tie
 
-pub is-full-spec : {M : Type 1} → statement M
-unfolding fullBy ◌∨?◌ pick
-is-full-spec =
+pub is_full_spec : {M : Type 1} → statement M
+unfolding full_by ◌∨?◌ pick
+is_full_spec =
     tie.close
     (tie.spec
     (λ c. rw (yes≤ c.if1.true))

@@ -1,9 +1,9 @@
-use Rattle.text.proofs.Prelude.{needs}
+use Rattle.text.proofs.Prelude.{rules}
 use Rattle.reported.proofs.flat.Flat.of.Statement.{statement}
 use Rattle.reported.proofs.flat.Flat.of.Tie as tie
 
 pub of_spec : {M : Type 1} → statement M
 of_spec =
     tie.close
-    (tie.spec (search needs) (search needs) (search needs)
+    (tie.spec (search rules) (search rules) (search rules)
     (λ c. rw (c.before.before.of.ensures, c.before.of2.ensures, c.of3.ensures)))

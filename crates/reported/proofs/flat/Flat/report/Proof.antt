@@ -1,9 +1,9 @@
-use Rattle.text.proofs.Prelude.{needs}
+use Rattle.text.proofs.Prelude.{rules}
 use Rattle.reported.proofs.flat.Flat.report.Statement.{statement}
 use Rattle.reported.proofs.flat.Flat.report.Tie as tie
 
-pub report-spec : {M : Type 1} → statement M
-report-spec =
+pub report_spec : {M : Type 1} → statement M
+report_spec =
     tie.close
-    (tie.spec (search needs) (search needs) (search needs)
+    (tie.spec (search rules) (search rules) (search rules)
     (λ c. rw (c.before.before.range.ensures, c.before.range2.ensures, c.range3.ensures)))

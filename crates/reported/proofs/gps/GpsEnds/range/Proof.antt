@@ -1,9 +1,9 @@
 use Rattle.reported.specs.Flat.{ranged}
-use Rattle.reported.proofs.Keeping.{ranged-some}
+use Rattle.reported.proofs.Keeping.{ranged_some}
 use Rattle.reported.proofs.gps.GpsEnds.range.Statement.{statement}
 use Rattle.reported.proofs.gps.GpsEnds.range.Tie as tie
 
-pub range-spec : {M : Type 1} → statement M
+pub range_spec : {M : Type 1} → statement M
 unfolding ranged
-range-spec =
-    tie.close (tie.spec (λ c. rw c.if1.true) (λ c. ranged-some _ _ _ c.before.before.if1.false))
+range_spec =
+    tie.close (tie.spec (λ c. rw c.if1.true) (λ c. ranged_some _ _ _ c.before.before.if1.false))

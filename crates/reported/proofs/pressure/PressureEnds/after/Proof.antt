@@ -1,23 +1,23 @@
-use Rattle.text.proofs.Prelude.{needs, refl, first, second, so-true, so_false}
+use Rattle.text.proofs.Prelude.{rules, refl, first, second, so_true, so_false}
 use mir.Syntax.{w16}
 use mir.Val.{SFits}
 use mir.Facts.{to_z-of_z}
-use Rattle.reported.specs.Flat.{ranged, oneSeen, withPressure}
-use Rattle.reported.proofs.Keeping.{pressure-seen}
+use Rattle.reported.specs.Flat.{ranged, one_seen, with_pressure}
+use Rattle.reported.proofs.Keeping.{pressure_seen}
 use Rattle.reported.proofs.pressure.PressureEnds.after.Statement.{statement}
 use Rattle.reported.proofs.pressure.PressureEnds.after.Tie as tie
 
 high : (c : tie.Start) → SFits w16 c.args.self.high.0
-high c = search needs
+high c = search rules
 
 low : (c : tie.Start) → SFits w16 c.args.self.low.0
-low c = search needs
+low c = search rules
 
 height : (c : tie.Start) → SFits w16 c.args.height.0
-height c = search needs
+height c = search rules
 
 one_more : tie.Need-returns-2
-unfolding withPressure oneSeen ranged
+unfolding with_pressure one_seen ranged
 one_more c =
     let heights = c.before in
     let places = heights.before in
@@ -25,19 +25,19 @@ one_more c =
     let highest = lowest.before.before.before.before.before.before in
     let test = highest.before.before.before.before.before.before.before.before in
     let start = test.before in
-    first _ (so-true refl test.if1.false)
-    (pressure-seen _ _ _
+    first _ (so_true refl test.if1.false)
+    (pressure_seen _ _ _
     (rw (to_z-of_z (high start), to_z-of_z (height start)) at highest.new-end.ensures)
     (rw (to_z-of_z (height start), to_z-of_z (low start)) at lowest.new-end2.ensures)
     places.before.place_of.ensures places.place-of2.ensures
     heights.height-of.ensures c.height-of2.ensures)
 
-pub after-spec : {M : Type 1} → statement M
-unfolding withPressure oneSeen
-after-spec =
+pub after_spec : {M : Type 1} → statement M
+unfolding with_pressure one_seen
+after_spec =
     tie.close
     (tie.spec
     (λ c. second _ (so_false refl c.if1.true) refl)
-    (search needs) (search needs) (search needs) (search needs) (search needs) (search needs) (search needs)
-    (search needs)
+    (search rules) (search rules) (search rules) (search rules) (search rules) (search rules) (search rules)
+    (search rules)
     one_more)

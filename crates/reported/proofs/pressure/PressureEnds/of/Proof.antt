@@ -1,4 +1,4 @@
-use Rattle.text.proofs.Prelude.{needs}
+use Rattle.text.proofs.Prelude.{rules}
 use Rattle.reported.specs.Flat.{ranged}
 use Rattle.reported.proofs.pressure.PressureEnds.of.Statement.{statement}
 use Rattle.reported.proofs.pressure.PressureEnds.of.Tie as tie
@@ -8,7 +8,7 @@ unfolding ranged
 of_spec =
     tie.close
     (tie.spec
-    (search needs)
-    (search needs)
+    (search rules)
+    (search rules)
     (λ c. rw c.enum_told.given.1)
     (λ c. rw c.before.before.before.range.given.1))

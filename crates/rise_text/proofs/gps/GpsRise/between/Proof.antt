@@ -1,44 +1,44 @@
 use Rattle.text.specs.Prelude.{pick}
-use Rattle.text.proofs.Prelude.{needs, sym, ◌∙◌}
-use Rattle.rise_text.specs.Rise.{raised, gpsRise}
+use Rattle.text.proofs.Prelude.{rules, sym, ◌∙◌}
+use Rattle.rise_text.specs.Rise.{raised, gps_rise}
 use Rattle.rise_text.proofs.gps.GpsRise.between.Statement.{statement}
 use Rattle.rise_text.proofs.gps.GpsRise.between.Tie as tie
 
 above : tie.Need-returns
-unfolding raised gpsRise pick
+unfolding raised gps_rise pick
 above c =
-    let below : tie.After-is-below = search needs in
-    let before : tie.After-before2 = search needs in
-    let now : tie.After-now = search needs in
+    let below : tie.After-is-below = search rules in
+    let before : tie.After-before2 = search rules in
+    let now : tie.After-now = search rules in
     rw (before.before2.given.1, now.now.given.1, sym below.is_below.ensures ∙ c.if1.true)
 
 -- no height was seen
-none-now : tie.Need-returns-2
-unfolding raised gpsRise
-none-now c = let e : tie.After-enum-told = search needs in rw e.enum_told.given.1
+none_now : tie.Need-returns-2
+unfolding raised gps_rise
+none_now c = let e : tie.After-enum-told = search rules in rw e.enum_told.given.1
 
 -- the first was
 none_before : tie.Need-returns-3
-unfolding raised gpsRise
+unfolding raised gps_rise
 none_before c =
-    let e : tie.After-enum-told2 = search needs in
-    let now : tie.After-now = search needs in
+    let e : tie.After-enum-told2 = search rules in
+    let now : tie.After-now = search rules in
     rw (e.enum-told2.given.1, now.now.given.1)
 
-not-above : tie.Need-returns-4
-unfolding raised gpsRise pick
-not-above c =
-    let below : tie.After-is-below = search needs in
-    let before : tie.After-before2 = search needs in
-    let now : tie.After-now = search needs in
+not_above : tie.Need-returns-4
+unfolding raised gps_rise pick
+not_above c =
+    let below : tie.After-is-below = search rules in
+    let before : tie.After-before2 = search rules in
+    let now : tie.After-now = search rules in
     rw (before.before2.given.1, now.now.given.1, sym below.is_below.ensures ∙ c.if1.false)
 
-pub between-spec : {M : Type 1} → statement M
-between-spec =
+pub between_spec : {M : Type 1} → statement M
+between_spec =
     tie.close
     (tie.spec
-    (search needs) (search needs) (search needs) (search needs) (search needs)
+    (search rules) (search rules) (search rules) (search rules) (search rules)
     above
-    none-now
+    none_now
     none_before
-    not-above)
+    not_above)

@@ -1,19 +1,19 @@
-use Rattle.text.proofs.Prelude.{needs}
+use Rattle.text.proofs.Prelude.{rules}
 use Rattle.report.specs.Range.{joined}
 use Rattle.span.proofs.gps.GpsSpan.join.Statement.{statement}
 use Rattle.span.proofs.gps.GpsSpan.join.Tie as tie
 
-pub join-spec : {M : Type 1} → statement M
+pub join_spec : {M : Type 1} → statement M
 unfolding joined
-join-spec =
+join_spec =
     tie.close
     (tie.spec
-    (search needs)
-    (search needs)
-    (search needs)
-    (search needs)
-    (search needs)
-    (search needs)
+    (search rules)
+    (search rules)
+    (search rules)
+    (search rules)
+    (search rules)
+    (search rules)
     (λ c. rw c.enum_told.given.1)
     (λ c. rw (c.before.before.before.self.given.1, c.enum-told2.given.1))
     (λ c. let later = c.before.before.before.before in

@@ -1,30 +1,30 @@
 use Rattle.text.specs.Prelude.{◌≡◌, Bool, true, false}
-use Rattle.text.proofs.Prelude.{needs, refl, first, second, so-true, so_false}
-use Rattle.span.specs.Span.{laterGps, mapped, all_fit, numbersOf, shifted, gpsOver}
-use Rattle.span.proofs.Fits.{fit-pair}
+use Rattle.text.proofs.Prelude.{rules, refl, first, second, so_true, so_false}
+use Rattle.span.specs.Span.{later_gps, mapped, all_fit, numbers_of, shifted, gps_over}
+use Rattle.span.proofs.Fits.{fit_pair}
 use Rattle.span.proofs.gps.GpsSpan.later.Statement.{statement}
 use Rattle.span.proofs.gps.GpsSpan.later.Tie as tie
 
 abbrev fits : tie.Start → Bool
-fits b = all_fit (numbersOf (λ s. s.log) (mapped (laterGps b.args.before) (gpsOver b.args.self)))
+fits b = all_fit (numbers_of (λ s. s.log) (mapped (later_gps b.args.before) (gps_over b.args.self)))
 
-over : (c : tie.Then1) → fits (search needs) ≡ false
+over : (c : tie.Then1) → fits (search rules) ≡ false
 over c = so_false c.before.fits2.ensures c.if1.true
 
-fit : (c : tie.Else1) → fits (search needs) ≡ true
-fit c = so-true c.before.fits2.ensures c.if1.false
+fit : (c : tie.Else1) → fits (search rules) ≡ true
+fit c = so_true c.before.fits2.ensures c.if1.false
 
-pub later-spec : {M : Type 1} → statement M
-unfolding laterGps mapped shifted
-later-spec =
+pub later_spec : {M : Type 1} → statement M
+unfolding later_gps mapped shifted
+later_spec =
     tie.close
     (tie.spec
-    (search needs)
-    (λ c. second _ (over (search needs)) refl)
-    (search needs)
-    (search needs)
-    (λ c κs. (fit-pair _ _ _ (rw c.before.self.given.1 at (fit c.before.before.before))).0)
-    (λ c κs. (fit-pair _ _ _ (rw c.before.before.self.given.1 at (fit c.before.before.before.before))).1)
-    (λ c. first _ (fit (search needs)) (rw c.enum_told.given.1))
-    (λ c. first _ (fit (search needs))
+    (search rules)
+    (λ c. second _ (over (search rules)) refl)
+    (search rules)
+    (search rules)
+    (λ c κs. (fit_pair _ _ _ (rw c.before.self.given.1 at (fit c.before.before.before))).0)
+    (λ c κs. (fit_pair _ _ _ (rw c.before.before.self.given.1 at (fit c.before.before.before.before))).1)
+    (λ c. first _ (fit (search rules)) (rw c.enum_told.given.1))
+    (λ c. first _ (fit (search rules))
     (rw (c.before.before.before.self.given.1, c.before.later.ensures, c.later2.ensures))))

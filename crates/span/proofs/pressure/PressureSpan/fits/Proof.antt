@@ -1,19 +1,19 @@
-use Rattle.text.proofs.Prelude.{needs, arith, sym, yes≤, no≤, holds, fails}
-use Rattle.span.specs.Span.{laterPressure, mapped, all_fit, numbersOf}
+use Rattle.text.proofs.Prelude.{rules, arith, sym, yes≤, no≤, holds, fails}
+use Rattle.span.specs.Span.{later_pressure, mapped, all_fit, numbers_of}
 use Rattle.span.proofs.Fits.{last_fits}
 use Rattle.span.proofs.pressure.PressureSpan.fits.Statement.{statement}
 use Rattle.span.proofs.pressure.PressureSpan.fits.Tie as tie
 
-pub fits-spec : {M : Type 1} → statement M
-unfolding laterPressure mapped all_fit numbersOf
-fits-spec =
+pub fits_spec : {M : Type 1} → statement M
+unfolding later_pressure mapped all_fit numbers_of
+fits_spec =
     tie.close
     (tie.spec
-    (search needs)
-    (search needs)
-    (search needs)
+    (search rules)
+    (search rules)
+    (search rules)
     (λ c. rw c.before.before.before.self.given.1 (sym (fails _ (no≤ (omega arith)))))
-    (search needs)
+    (search rules)
     (λ c. rw c.enum_told.given.1)
     (λ c. rw c.before.before.before.before.self.given.1
     (sym (holds (yes≤ (omega arith)) (sym (last_fits _ _ (omega arith)))))))

@@ -1,13 +1,13 @@
-use Rattle.text.proofs.Prelude.{needs, refl, sym, ◌∙◌, first, second}
+use Rattle.text.proofs.Prelude.{rules, refl, sym, ◌∙◌, first, second}
 use Rattle.report.specs.Range.{higher}
 use Rattle.span.proofs.pressure.PressureSpot.higher.Statement.{statement}
 use Rattle.span.proofs.pressure.PressureSpot.higher.Tie as tie
 
-pub higher-spec : {M : Type 1} → statement M
+pub higher_spec : {M : Type 1} → statement M
 unfolding higher
-higher-spec =
+higher_spec =
     tie.close
     (tie.spec
-    (search needs)
+    (search rules)
     (λ c. first _ (sym c.before.below.ensures ∙ c.if1.true) refl)
     (λ c. second _ (sym c.before.below.ensures ∙ c.if1.false) refl))

@@ -1,0 +1,15 @@
+use Rattle.text.proofs.Prelude.{rules}
+use Rattle.igc_log.proofs.Cuts.{not_before, cut_closed, cut_open}
+use Rattle.igc_log.proofs.cut_at.Statement.{statement}
+use Rattle.igc_log.proofs.cut_at.Tie as tie
+
+pub cut_at_spec : {M : Type 1} → statement M
+cut_at_spec =
+    tie.close
+    (tie.spec
+    (search rules) (search rules)
+    (λ c. not_before _ _ _ c.before.before.lf-from.ensures _ c.text_end_of.ensures)
+    (search rules)
+    (λ c. cut_closed _ _ _ c.before.before.lf-from.ensures c.before.if1.true _ c.text_end_of.ensures)
+    (search rules)
+    (λ c. cut_open _ _ _ c.before.lf-from.ensures c.if1.false))
