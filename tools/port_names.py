@@ -218,7 +218,7 @@ def now_behind(text):
             end = j + len(rest)
         else:
             a = re.match(IDENT + r"(?:\." + IDENT + r")*", text[i:]).group(0)
-            if a in ("in",) or text[i + len(a):i + len(a) + 3] == " : " and before.strip() == "":
+            if a in ("in",) or text[i + len(a):i + len(a) + 3] == " : ":
                 at = m.end()
                 continue
             atom, end = a, i + len(a)
@@ -245,6 +245,7 @@ def preludes(text):
         text = imports_without(text, "now")
     else:
         text = re.sub(r"denote\.Ref\.\{now\}", "denote.Bor.{now}", text)
+    text = imports_without(text, "RefT")
     return re.sub(r"(?<![\w.'-])needs(?![\w'-])", "rules", text)
 
 

@@ -1,4 +1,6 @@
 // The calendar of two-digit years, which the Rust does not have: its dates take a 30 February.
+#![tactic(auto)]
+
 ghost use Rattle.std.specs.Prelude.{◌≡◌};
 ghost use Rattle.calendar.specs.Days.{february, days_in_of};
 

@@ -1,6 +1,6 @@
 -- A name that is shown: how long it is, and what that tells of the caption.
 use denote.Ref.{Bor}
-use Rattle.text.specs.Prelude.{ℕ, ◌+◌, ◌≤◌, ◌<◌, ◌≡◌, Bool, true, false, List, length, drop, RefT, guard, pick, ◌≤?◌}
+use Rattle.text.specs.Prelude.{ℕ, ◌+◌, ◌≤◌, ◌<◌, ◌≡◌, Bool, true, false, List, length, drop, guard, pick, ◌≤?◌}
 use native.Mathlib.Omega.{arith}
 use mathlib.Core.Path.{ap, ◌∙◌, refl}
 use lib.ListN.{length-drop}

@@ -1,4 +1,5 @@
 // One definition of an extension, as the first half of src/records/extension.rs has it.
+#![tactic(auto)]
 pub mod value;
 
 ghost use Rattle.std.specs.Prelude.{◌≡◌};

@@ -28,7 +28,7 @@ module _ {test : ℕ → Bool} {all : List ℕ → Bool} (every : Every test all
   all_at j e inside q = rw (drop-cons s i 0 inside, ← q, e, add-one) (every.all_cons (get_or s i 0) (drop (suc i) s))
 
   -- a turn of a loop with no way out: what is seen of the bytes before i and what is left, from here, are the whole
-  pub next_seen : (seen : Bool) {t.now : Bool} → i < length s → (seen ∧? all (drop i s)) ≡ t → now
+  pub next_seen : (seen : Bool) {now t : Bool} → i < length s → (seen ∧? all (drop i s)) ≡ t → now
       ≡ (test (get_or s i 0) ∧? seen) → (now ∧? all (drop (i + 1) s)) ≡ t
   next_seen seen inside inv e = rw (e, ∧?-comm (test (get_or s i 0)) seen)
       (∧?-assoc _ _ _ ∙ ap (λ left. seen ∧? left) (sym (all_at (i + 1) refl inside refl)) ∙ inv)

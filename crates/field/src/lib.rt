@@ -1,4 +1,6 @@
 // What every field is read by: tests of all its bytes, and three bytes by value.
+#![tactic(auto)]
+
 ghost use Rattle.std.specs.Prelude.{◌≡◌, [], ◌∷◌, ◌+◌, ◌*◌, ◌<◌, ◌^◌, drop};
 ghost use Rattle.text.specs.Number.{is_digit_of, all_digits_of, first_other_of};
 ghost use Rattle.put.specs.Put.{Wrote};

@@ -1,7 +1,7 @@
 -- A fresh walk reads every line of the log once, in order, before it is done, and keeps their report; and so does the
 -- desk's reader.
 use denote.Ref.{Bor}
-use Rattle.text.specs.Prelude.{ℕ, zero, suc, ◌+◌, ◌-◌, ◌≤◌, ◌<◌, ◌≡◌, true, false, List, length, take, drop, RefT}
+use Rattle.text.specs.Prelude.{ℕ, zero, suc, ◌+◌, ◌-◌, ◌≤◌, ◌<◌, ◌≡◌, true, false, List, length, take, drop}
 use Rattle.text.specs.Prelude.{pick, ◌≤?◌, ◌∧?◌, largest}
 use Rattle.text.proofs.Prelude.{arith, refl, sym, ap, ◌∙◌, take_all, yes≤, is≤, isnt≤, fails, and, by_test}
 use Rattle.part.specs.Part.{bytes_of}

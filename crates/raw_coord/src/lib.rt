@@ -1,4 +1,5 @@
 // A coordinate of either kind, as src/util/coord.rs has it.
+#![tactic(auto)]
 pub mod degrees;
 
 ghost use Rattle.std.specs.Prelude.{◌≡◌, ◌+◌};

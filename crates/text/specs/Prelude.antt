@@ -6,7 +6,6 @@ unfoldable pub use Rattle.std.proofs.Math.Bool.{not}
 unfoldable pub use mathlib.Core.List.{◌++◌, map}
 unfoldable pub use Rattle.std.proofs.Math.ListN.{length, take, drop, get_or, set, replicate}
 pub use Rattle.std.specs.Borrow.{Bor, MutBor}
-
 pub use Rattle.text.specs.Res.{Res, ok, no}
 unfoldable pub use Rattle.text.specs.Res.{bind, moved, guard, pick, number_of, place_of, placed, moved_by, ◌≤?◌}
 unfoldable pub use Rattle.text.specs.Res.{◌=?◌, ◌∧?◌, ◌∨?◌}

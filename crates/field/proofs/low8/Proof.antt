@@ -7,7 +7,7 @@ use Rattle.field.proofs.low8.Tie as tie
 returns : tie.Need-returns
 returns c =
     let x = c.before.before.before.before.before.before.before.args in
-    let w : Word c.join7.result (x.a ∷ x.b ∷ x.c ∷ x.d ∷ x.e ∷ x.f ∷ x.g ∷ x.h ∷ []) =
+    let w : Word c.join-6.result (x.a ∷ x.b ∷ x.c ∷ x.d ∷ x.e ∷ x.f ∷ x.g ∷ x.h ∷ []) =
     search (rules, one_byte, byte_below) depth 10 in
     w.masked
 

@@ -1,7 +1,7 @@
 -- A walk of the MIR by hand, after the kit's reader/next: the reader is taken apart, and `line_at` is called on its log
 -- and its place. All that is known of `line_at` is its contract.
 use denote.Ref.{Bor}
-use Rattle.text.specs.Prelude.{ℕ, ◌^◌, ◌<◌, List, [], ◌∷◌, RefT}
+use Rattle.text.specs.Prelude.{ℕ, ◌^◌, ◌<◌, List, [], ◌∷◌}
 use Rattle.text.proofs.Prelude.{refl}
 use lib.Dec.{T as Holds}
 use seplogic.Ra.Ura.{Ura}

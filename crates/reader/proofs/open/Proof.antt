@@ -1,7 +1,7 @@
 -- A walk of the MIR by hand, after the kit's reader/new. A `&[u8]` is Copy: what it owns is had twice, once for the
 -- exit and once inside the reader, beside the facts of the two numbers.
 use denote.Ref.{Bor}
-use Rattle.text.specs.Prelude.{ℕ, List, [], ◌∷◌, length, RefT}
+use Rattle.text.specs.Prelude.{ℕ, List, [], ◌∷◌, length}
 use Rattle.text.proofs.Prelude.{refl}
 use lib.Dec.{lit<}
 use seplogic.Ra.Ura.{Ura}

@@ -6,7 +6,7 @@ use Rattle.print.proofs.number.put_i8.Tie as tie
 
 returns : tie.Need-returns
 returns c = rw (widened w8 w64 tt c.before.before.before.before.before.ranges.z)
-    at c.before.before.put-int.ensures
+    at c.before.before.put_int.ensures
 
 pub put_i8_spec : {M : Type 1} → statement M
 put_i8_spec = tie.close (tie.spec (λ c. widens w8 w64 tt c.before.ranges.z) (search rules) (search rules) returns)

@@ -57,37 +57,37 @@ below (negsuc k) f t =
     let s2 : SFits w64 (pos 0 -ℤ U (negsuc k)) = rw (u, down k) p in
     record { first = s1; second = s2; k = k; small = h; is = refl; last = rw (u, down k) (to_z-of_z p) }
 
-at_then : (c : tie.Then1) → Below c.before.args.z
-at_then c = below c.before.args.z c.before.ranges.z (rw (to_z-of_z c.before.ranges.z) at c.if1.true)
+at_then : (c : tie.Then-z-lt0) → Below c.before.args.z
+at_then c = below c.before.args.z c.before.ranges.z (rw (to_z-of_z c.before.ranges.z) at c.if-z-lt0.true)
 
 above : (z : ℤ) → SFits w64 z → lt_z z (pos 0) ≡ false → T (non_neg z) × Fits w64 (nat_abs z)
     × (Plus (nat_abs z) ≡ split_of z)
 above (pos n) f t = (tt, record { fits = omega (arith, f.sfits) }, refl)
 above (negsuc n) f t = absurd (subst T t tt)
 
-at_else : (c : tie.Else1) → T (non_neg c.before.args.z) × Fits w64 (nat_abs c.before.args.z)
+at_else : (c : tie.Else-z-lt0) → T (non_neg c.before.args.z) × Fits w64 (nat_abs c.before.args.z)
     × (Plus (nat_abs c.before.args.z) ≡ split_of c.before.args.z)
-at_else c = above c.before.args.z c.before.ranges.z (rw (to_z-of_z c.before.ranges.z) at c.if1.false)
+at_else c = above c.before.args.z c.before.ranges.z (rw (to_z-of_z c.before.ranges.z) at c.if-z-lt0.false)
 
-add_t4 : tie.Need-overflow-add-t4
+add_t4 : tie.Need-overflow_add-result
 add_t4 c = (at_then c).first
 
-sub_t5 : tie.Need-overflow-sub-t5
+sub_t5 : tie.Need-overflow_sub-result
 sub_t5 c = (at_then c).second
 
-cast_t6 : tie.Need-overflow-cast-t6
+cast_t6 : tie.Need-overflow_cast-result
 cast_t6 c = let b = at_then c in rw b.last (tt, record { fits = omega (arith, b.small) })
 
-add_t7 : tie.Need-overflow-add-t7
+add_t7 : tie.Need-overflow_add-result-then-z-lt0
 add_t7 c = let b = at_then c in rw b.last (record { fits = omega (arith, b.small) })
 
-cast_t8 : tie.Need-overflow-cast-t8
+cast_t8 : tie.Need-overflow_cast-result-else-z-lt0
 cast_t8 c = let b = at_else c in rw (to_z-of_z c.before.ranges.z) (b.0, b.1)
 
-returns : tie.Need-returns
+returns : tie.Need-returns-then-z-lt0
 returns c = let b = at_then c in rw (b.last, add-one) (sym (ap split_of b.is))
 
-returns-2 : tie.Need-returns-2
+returns-2 : tie.Need-returns-else-z-lt0
 returns-2 c = rw (to_z-of_z c.before.ranges.z) (at_else c).2
 
 pub split_spec : {M : Type 1} → statement M

@@ -13,22 +13,22 @@ line b = b.args.line.now
 abbrev asked : tie.Start → Part
 asked b = b.args.p
 
-found : (c : tie.After--inside) → ok c.-inside.given.0.0 ≡ find_part (asked (search rules)) (line (search rules))
-found c = came found_res c.-inside.given.1 c.before.before.find.ensures
+found : (c : tie.In-At) → ok c.in-At._inside ≡ find_part (asked (search rules)) (line (search rules))
+found c = came found_res c.in-At.is c.before.find.ensures
 
-outside : tie.Need-returns-2
+outside : tie.Need-returns-in-Refused
 unfolding part_text text_of
-outside c = refused _ (off _ (came found_res c.before.no.given.1 c.before.before.before.find.ensures))
+outside c = refused _ (off _ (came found_res c.in-Refused.is c.before.find.ensures))
 
-full : tie.Need-returns
+full : tie.Need-returns-then-buf-put_part
 unfolding part_text
-full c = no_room (text_found _ (found (search rules))) c.before.before.put-part.ensures (search rules)
+full c = no_room (text_found _ (found (search rules))) c.before.before.put_part.ensures (search rules)
 
-fits : tie.Need-returns-3
+fits : tie.Need-returns-else-buf-put_part
 unfolding part_text
 fits c = written (text_found _ (found (search rules)))
-    c.before.before.before.before.before.before.put-part.ensures (search rules)
-    c.before.before.put-part2.ensures
+    c.before.before.before.before.before.before.put_part.ensures (search rules)
+    c.before.before.put_part-in-At.ensures
 
 pub print_part_spec : {M : Type 1} → statement M
 print_part_spec =

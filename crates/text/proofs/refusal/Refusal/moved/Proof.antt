@@ -13,6 +13,6 @@ told f other p q h = h ∙ ap (placed f other) (sym q ∙ p)
 pub moved_spec : {M : Type 1} → statement M
 unfolding moved_by placed
 moved_spec = tie.close (tie.spec (search rules) (search rules) (search rules) (search rules)
-    (λ c. told _ _ c.before.before.before.before.place.ensures c.before.before.place2.given.1
+    (λ c. told _ _ c.before.before.place.ensures c.before.in-At.is
     (ap UnreadableNumber c.counted.ensures))
-    (λ c. told _ _ c.before.before.place.ensures c.enum_told.given.1 refl))
+    (λ c. told _ _ c.before.place.ensures c.in-Missing.is refl))

@@ -9,7 +9,7 @@ place_spec =
     (tie.spec
     (search rules) (search rules) (search rules) (search rules) (search rules) (search rules) (search rules)
     (search rules) (search rules) (search rules) (search rules) (search rules)
-    (λ c. ap place_of (sym c.before.self.given.1))
+    (λ c. ap place_of (sym c.in-UnreadableNumber.is))
     (λ c. search rules) (λ c. search rules) (λ c. search rules) (λ c. search rules) (λ c. search rules)
     (λ c. search rules) (λ c. search rules) (λ c. search rules) (λ c. search rules) (λ c. search rules)
     (λ c. search rules))

@@ -1,0 +1,288 @@
+#!/usr/bin/env python3
+"""Turns what a Proof.antt of an older Rattle names to what today's Rattle makes, by the list that the check prints.
+
+usage: tools/port_proofs.py CRATE..     in the repository, where the crates below are proved
+
+`rt check --generated DIR --old-names` lists for each function its places, their steps and its goals by the old name and
+the new. A path `c.before.if1.true` is walked from the place of its `c`, so that a step gets the name of its place.
+Run it once a crate, before any edit of its proofs by hand.
+"""
+import json
+import pathlib
+import re
+import subprocess
+import sys
+import tempfile
+
+IDENT = r"[^\s(){}\[\];,.\"λ@«»]+"
+PATH = IDENT + r"(?:\." + IDENT + r")*"
+
+
+def plain(name):
+    return name.replace("-", "_")
+
+
+class Names:
+    def __init__(self, entry):
+        self.places = entry["places"]
+        self.new_place = {}
+        self.at = {}
+        self.own = {}
+        for (old, parent, step, _callee, _), new in zip(self.places, entry["places_by_name"]):
+            self.new_place[plain(old)] = new
+            self.at[plain(old)] = (plain(parent) if parent else None, plain(step[0]), step[1])
+        self.needs = {plain(a): b for a, b in entry["needs"]}
+        self.order = [plain(a) for a, b in entry["needs"]]
+        self.asked = [plain(a) for a, b in entry["asked_at"]]
+        self.loops = {plain(l[0][0]): l[0][1] for l in entry["loops"]}
+        self.arms = {plain(p[0]): a for p, a in zip(self.places, entry["arms"]) if a}
+        self.steps = {}
+        for p, (parent, old, new) in self.at.items():
+            self.steps.setdefault(old, set()).add(new)
+        self.place_of_need = dict(zip(self.order, self.asked))
+
+    def ups(self, place):
+        """The place and those before it, nearest first."""
+        got = []
+        while place:
+            got.append(place)
+            place = self.at[place][0]
+        return got
+
+    def whole(self, place):
+        """The place at which the arm of a match that begins there is told whole."""
+        arm = self.arms.get(place)
+        if not arm:
+            return place
+        best = place
+        for p, a in self.arms.items():
+            if a and a[0] == arm[0] and a[1] > self.arms[best][1] and place in self.ups(p):
+                best = p
+        return best
+
+    def walk(self, place, parts):
+        """The components of a path from a value at that place, renamed."""
+        b = 0
+        while b < len(parts) and parts[b] == "before":
+            b += 1
+        rest = parts[b:]
+        if not place:
+            return parts[:b] + self.any_step(rest)
+        chain = self.ups(place)
+        if b >= len(chain):
+            return parts[:b] + self.any_step(rest)
+        target = chain[b]
+        if rest and plain(rest[0]) != self.at[target][1]:
+            for q in chain[b:]:
+                if rest and plain(rest[0]) == self.at[q][1]:
+                    target = q
+                    break
+        out, cur = [], self.whole(place)
+        while cur != target:
+            arm = self.arms.get(cur)
+            if arm:
+                chain = self.ups(cur)
+                inside = chain[:arm[1]]
+                if target in inside:
+                    break
+                cur = chain[arm[1]]
+            else:
+                cur = self.at[cur][0]
+            out.append("before")
+        if not rest:
+            return out
+        arm = self.arms.get(cur)
+        if arm:
+            step = plain(rest[0])
+            hits = [(len(sub), new, sub) for new, old, sub in arm[2] if plain(old) == step and rest[1:1 + len(sub)] == sub]
+            if hits and step in [self.at[q][1] for q in self.ups(cur)[:arm[1]]]:
+                k, new, sub = max(hits)
+                return out + [arm[0], new] + rest[1 + k:]
+        if plain(rest[0]) == self.at[target][1] and self.at[target][1]:
+            return out + [self.at[target][2]] + rest[1:]
+        return out + self.any_step(rest)
+
+    def any_step(self, rest):
+        if rest and rest[0] == "fits":
+            return ["ranges"] + rest[1:]
+        got = self.steps.get(plain(rest[0])) if rest else None
+        if got and len(got) == 1 and plain(rest[0]):
+            return [next(iter(got))] + rest[1:]
+        return rest
+
+
+def turn(text, n):
+    def tie(m):
+        name = m.group(1)
+        if plain(name) in n.new_place:
+            return "tie." + n.new_place[n.whole(plain(name))]
+        k = re.match(r"Need-(.*)$", name)
+        if k:
+            key = plain(k.group(1))
+            key = re.sub(r"^overflow_", "", key) if key not in n.needs else key
+            if key in n.needs:
+                return "tie.Need-" + n.needs[key]
+        k = re.match(r"(invariant|decreases)-(.*)$", name)
+        if k and plain(k.group(2)) in n.loops:
+            return "tie." + k.group(1) + "-" + n.loops[plain(k.group(2))]
+        return m.group(0)
+
+    # The place of each variable, by the definition that it stands in.
+    blocks = re.split(r"(?m)^(?=\S)", text)
+    out, signature = [], {}
+    for b in blocks:
+        env = {}
+        head = re.match(r"(?:(?:abbrev|pub|unfoldable) )*(" + IDENT + r") :\s*((?:.|\n)*)", b)
+        if head and "=" not in b.split(":")[0]:
+            name, ty = head.group(1), head.group(2)
+            kinds = []
+            need = re.match(r"\s*tie\.Need-(" + IDENT + ")", ty)
+            if need:
+                key = plain(need.group(1))
+                key = re.sub(r"^overflow_", "", key) if key not in n.place_of_need else key
+                kinds = [n.place_of_need.get(key)]
+            else:
+                for binder in re.finditer(r"\((" + IDENT + r"(?: " + IDENT + r")*) : tie\.(" + IDENT + r")", ty):
+                    for v in binder.group(1).split():
+                        env[v] = plain(binder.group(2))
+                m = re.match(r"\s*((?:tie\." + IDENT + r" → |\([^()]*\) → |\{[^{}]*\} → )*)", ty)
+                for part in re.findall(r"tie\.(" + IDENT + r") →|\(([^():]*) : tie\.(" + IDENT + r")[^()]*\) →|(\([^()]*\)) →", m.group(1)):
+                    if part[0]:
+                        kinds.append(plain(part[0]))
+                    elif part[1]:
+                        kinds += [plain(part[2])] * len(part[1].split())
+                    else:
+                        kinds += [None] * len(re.sub(r":.*", "", part[3].strip("()")).split())
+            signature[name] = kinds
+        clause = re.match(r"(" + IDENT + r")((?: (?:" + IDENT + r"|\([^()]*\)|\{[^{}]*\}))*) =", b)
+        if clause and clause.group(1) in signature:
+            args = re.findall(IDENT + r"|\([^()]*\)|\{[^{}]*\}", clause.group(2))
+            args = [a for a in args if not a.startswith("{")]
+            for a, k in zip(args, signature[clause.group(1)]):
+                if k:
+                    env[a] = k
+        for m in re.finditer(r"(" + IDENT + r") : tie\.(" + IDENT + r")(?= =)", b):
+            env[m.group(1)] = plain(m.group(2))
+        spec = re.search(r"tie\.spec\b", b)
+        if spec:
+            b = spec_args(b, spec.end(), n, env)
+        else:
+            b = paths(b, n, env)
+        out.append(b)
+    text = "".join(out)
+    text = re.sub(r"tie\.(" + IDENT + ")", tie, text)
+    # A test of `!f(x)` is told as what f answered.
+    return re.sub(r"not-(?:true|false) _ (c\.)", r"\1", text)
+
+
+def aliases(b, n, env):
+    """The places of what `let n = c.before.before in` names."""
+    for m in re.finditer(r"(?:let )?(" + IDENT + r") = (" + IDENT + r")((?:\.before)*)\s+in\b", b):
+        place = env.get(m.group(2))
+        if place in n.at:
+            chain = n.ups(place)
+            k = m.group(3).count("before")
+            if k < len(chain):
+                env[m.group(1)] = chain[k]
+
+
+def paths(b, n, env):
+    aliases(b, n, env)
+
+    def one(m):
+        t = m.group(0)
+        parts = t.split(".")
+        if len(parts) < 2 or parts[0] in ("Rattle", "tie") or parts[0][:1].isupper():
+            return t
+        place = env.get(parts[0])
+        if place and place not in n.at:
+            place = None
+        return ".".join([parts[0]] + today(n.walk(place, parts[1:])))
+
+    return re.sub(r"--[^\n]*|" + PATH, lambda m: m.group(0) if m.group(0).startswith("--") else one(m), b)
+
+
+def today(parts):
+    """The fields of a loop and of a test as they are called today."""
+    out = list(parts)
+    for i in range(1, len(out)):
+        if out[i] == "inv" and out[i - 1].startswith("loop"):
+            out[i] = "invariant"
+        if out[i - 1].startswith("if"):
+            out[i] = {"taken": "true", "left": "false"}.get(out[i], out[i])
+    return out
+
+
+def arguments(b, at):
+    """The arguments behind tie.spec, as spans."""
+    i, spans = at, []
+    while i < len(b):
+        while i < len(b) and b[i].isspace():
+            i += 1
+        if i >= len(b) or b[i] == ")":
+            break
+        j = i
+        if b[i] in "({":
+            depth = 0
+            while True:
+                depth += {"(": 1, ")": -1, "{": 1, "}": -1}.get(b[j], 0)
+                j += 1
+                if depth == 0:
+                    break
+        else:
+            while j < len(b) and not b[j].isspace() and b[j] != ")":
+                j += 1
+        spans.append((i, j))
+        i = j
+    return spans
+
+
+def spec_args(b, at, n, env):
+    spans = arguments(b, at)
+    extra = len(spans) - len(n.order)
+    out, last = [paths(b[:at], n, env)], at
+    for k, (i, j) in enumerate(spans):
+        out.append(b[last:i])
+        here = dict(env)
+        need = k - extra
+        m = re.match(r"\(λ (" + IDENT + ")", b[i:j])
+        if m and extra >= 0 and need >= 0 and need < len(n.asked):
+            here[m.group(1)] = n.asked[need]
+        out.append(paths(b[i:j], n, here))
+        last = j
+    out.append(paths(b[last:], n, env))
+    if extra < 0:
+        print("look: fewer arguments than goals:", extra)
+    return "".join(out)
+
+
+def automatic(crate):
+    """The line that asks the check to try its tactics, above the first item of the root file."""
+    for root in (pathlib.Path("crates", crate, "src", f) for f in ("lib.rt", "main.rt")):
+        if root.exists() and "#![tactic(auto)]" not in root.read_text():
+            lines = root.read_text().split("\n")
+            k = next((i for i, l in enumerate(lines) if not l.startswith("//")), 0)
+            lines.insert(k, "#![tactic(auto)]")
+            root.write_text("\n".join(lines))
+
+
+def main():
+    for crate in sys.argv[1:]:
+        automatic(crate)
+        with tempfile.TemporaryDirectory() as d:
+            subprocess.run(["rt", "check", "--generated", d, "--old-names"], cwd="crates/" + crate, capture_output=True)
+            listed = json.load(open(d + "/names.json"))
+        for key, entry in listed.items():
+            m = re.match(r"Rattle-" + crate + r"-proofs\.(.*)\.Lts$", key)
+            if not m:
+                continue
+            p = pathlib.Path("crates", crate, "proofs", *m.group(1).split("."), "Proof.antt")
+            if not p.exists():
+                continue
+            t = p.read_text()
+            u = turn(t, Names(entry))
+            if u != t:
+                p.write_text(u)
+
+
+main()
