@@ -65,7 +65,7 @@ class Names:
         b = 0
         while b < len(parts) and parts[b] == "before":
             b += 1
-        rest = parts[b:]
+        rest = self.as_step(parts[b:])
         if not place:
             return parts[:b] + self.any_step(rest)
         chain = self.ups(place)
@@ -101,6 +101,14 @@ class Names:
         if plain(rest[0]) == self.at[target][1] and self.at[target][1]:
             return out + [self.at[target][2]] + rest[1:]
         return out + self.any_step(rest)
+
+    def as_step(self, rest):
+        """The path with its first name as a step, where a name of the repository's own had been taken for it."""
+        if rest and plain(rest[0]) not in self.steps:
+            short = re.sub(r"_(lem|of)$", "", plain(rest[0]))
+            if short in self.steps:
+                return [short] + rest[1:]
+        return rest
 
     def any_step(self, rest):
         if rest and rest[0] == "fits":
