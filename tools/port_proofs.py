@@ -34,6 +34,7 @@ class Names:
         self.needs = {plain(a): b for a, b in entry["needs"]}
         self.order = [plain(a) for a, b in entry["needs"]]
         self.asked = [plain(a) for a, b in entry["asked_at"]]
+        self.args = [tuple(x.replace(" .", ".") for x in pair) for pair in entry["args"]]
         self.loops = {plain(l[0][0]): l[0][1] for l in entry["loops"]}
         self.arms = {plain(p[0]): a for p, a in zip(self.places, entry["arms"]) if a}
         self.steps = {}
@@ -153,6 +154,7 @@ def turn(text, n):
                 for binder in re.finditer(r"\((" + IDENT + r"(?: " + IDENT + r")*) : tie\.(" + IDENT + r")", ty):
                     for v in binder.group(1).split():
                         env[v] = plain(binder.group(2))
+                ty = re.sub(r"\s+", " ", ty)
                 m = re.match(r"\s*((?:tie\." + IDENT + r" → |\([^()]*\) → |\{[^{}]*\} → )*)", ty)
                 for part in re.findall(r"tie\.(" + IDENT + r") →|\(([^():]*) : tie\.(" + IDENT + r")[^()]*\) →|(\([^()]*\)) →", m.group(1)):
                     if part[0]:
@@ -179,6 +181,9 @@ def turn(text, n):
         out.append(b)
     text = "".join(out)
     text = re.sub(r"tie\.(" + IDENT + ")", tie, text)
+    for old, new in n.args:
+        if old.startswith("."):
+            text = re.sub(re.escape(old) + r"(?![\w'-])", new, text)
     # A test of `!f(x)` is told as what f answered.
     return re.sub(r"not-(?:true|false) _ (c\.)", r"\1", text)
 
