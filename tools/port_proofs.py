@@ -138,7 +138,7 @@ def turn(text, n):
 
     # The place of each variable, by the definition that it stands in.
     blocks = re.split(r"(?m)^(?=\S)", text)
-    out, signature = [], {}
+    out, signature, typed = [], {}, {}
     for b in blocks:
         env = {}
         head = re.match(r"(?:(?:abbrev|pub|unfoldable) )*(" + IDENT + r") :\s*((?:.|\n)*)", b)
@@ -150,6 +150,8 @@ def turn(text, n):
                 key = plain(need.group(1))
                 key = re.sub(r"^overflow_", "", key) if key not in n.place_of_need else key
                 kinds = [n.place_of_need.get(key)]
+                if key in n.order:
+                    typed[name] = n.order.index(key)
             else:
                 for binder in re.finditer(r"\((" + IDENT + r"(?: " + IDENT + r")*) : tie\.(" + IDENT + r")", ty):
                     for v in binder.group(1).split():
@@ -171,11 +173,11 @@ def turn(text, n):
             for a, k in zip(args, signature[clause.group(1)]):
                 if k:
                     env[a] = k
-        for m in re.finditer(r"(" + IDENT + r") : tie\.(" + IDENT + r")(?= =)", b):
+        for m in re.finditer(r"(" + IDENT + r") : tie\.(" + IDENT + r")(?=[^=:]* =)", b):
             env[m.group(1)] = plain(m.group(2))
         spec = re.search(r"tie\.spec\b", b)
         if spec:
-            b = spec_args(b, spec.end(), n, env)
+            b = spec_args(b, spec.end(), n, env, typed)
         else:
             b = paths(b, n, env)
         out.append(b)
@@ -250,22 +252,69 @@ def arguments(b, at):
     return spans
 
 
-def spec_args(b, at, n, env):
+def placed(b, spans, n, typed):
+    """Which goal each argument answers; None where a search answers a goal that today's Rattle has no more.
+
+    Beside it, how many searches go in front of an argument, for goals that are new."""
+    first = 2 * len(n.loops)
+    goal, missing, shift = {}, {}, 0
+    for k, (i, j) in enumerate(spans):
+        if k < first:
+            goal[k] = -1
+            continue
+        want = typed.get(b[i:j].strip())
+        if want is not None:
+            now = k - first + shift
+            back = k - 1
+            while now > want and back >= first:
+                if b[spans[back][0]:spans[back][1]].startswith("(search") and goal[back] is not None:
+                    goal[back] = None
+                    shift -= 1
+                    now -= 1
+                    for q in range(back + 1, k):
+                        if goal[q] is not None:
+                            goal[q] -= 1
+                back -= 1
+            if now < want:
+                missing[k] = want - now
+                shift += want - now
+        goal[k] = k - first + shift
+    surplus = len(spans) - first + shift - len(n.order)
+    back = len(spans) - 1
+    while surplus > 0 and back >= first:
+        if b[spans[back][0]:spans[back][1]].startswith("(search") and goal[back] is not None:
+            goal[back] = None
+            surplus -= 1
+            for q in range(back + 1, len(spans)):
+                if goal[q] is not None:
+                    goal[q] -= 1
+        elif typed.get(b[spans[back][0]:spans[back][1]].strip()) is not None:
+            break
+        back -= 1
+    if surplus < 0:
+        missing[len(spans)] = -surplus
+    return goal, missing
+
+
+def spec_args(b, at, n, env, typed):
     spans = arguments(b, at)
-    extra = len(spans) - len(n.order)
+    goal, missing = placed(b, spans, n, typed)
     out, last = [paths(b[:at], n, env)], at
     for k, (i, j) in enumerate(spans):
         out.append(b[last:i])
-        here = dict(env)
-        need = k - extra
-        m = re.match(r"\(λ (" + IDENT + ")", b[i:j])
-        if m and extra >= 0 and need >= 0 and need < len(n.asked):
-            here[m.group(1)] = n.asked[need]
-        out.append(paths(b[i:j], n, here))
         last = j
+        out.append("(search rules) " * missing.get(k, 0))
+        if goal[k] is None:
+            continue
+        here = dict(env)
+        m = re.match(r"\(λ (" + IDENT + ")", b[i:j])
+        if m and 0 <= goal[k] < len(n.asked):
+            here[m.group(1)] = n.asked[goal[k]]
+        out.append(paths(b[i:j], n, here))
+    out.append(" (search rules)" * missing.get(len(spans), 0))
     out.append(paths(b[last:], n, env))
-    if extra < 0:
-        print("look: fewer arguments than goals:", extra)
+    if missing or None in goal.values():
+        print("look: arguments moved:", [k for k in goal if goal[k] is None], missing)
     return "".join(out)
 
 

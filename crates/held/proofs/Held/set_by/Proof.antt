@@ -19,7 +19,7 @@ keep : Table → Verdict → Held
 keep t v = record { table = t; slot = slot_of v }
 
 -- what the table's reader answers is what is held
-kept : {r : TableRead} (m : Res (List Extension)) → r ≡ table_read m → keep r.table r.verdict ≡ set_by_of m
+kept : {r : TableRead} (m : Res (List Extension)) → r ≡ table_read m → keep r.table-1 r.verdict-1 ≡ set_by_of m
 unfolding table_read set_by_of spoiled keep slot_of
 kept (ok ds) p = rw p
 kept (no n) p = rw p
@@ -30,6 +30,6 @@ set_by_spec =
     tie.close
     (tie.spec
     (search rules) (search rules) (search rules)
-    (λ c. ap (keep _) (sym c.enum_told.given.1) ∙ kept _ c.before.before.before.parse.ensures)
-    (λ c. ap (keep _) (sym c.before.verdict.given.1)
-    ∙ kept _ c.before.before.before.before.parse.ensures))
+    (λ c. ap (keep _) (sym c.in-Accepted.is) ∙ kept _ c.before.before.parse-read.ensures)
+    (λ c. ap (keep _) (sym c.in-Refused.is)
+    ∙ kept _ c.before.before.parse-read.ensures))

@@ -25,7 +25,7 @@ bad c =
     let l = c.before.before.before.before.before.loop-i in
     rw c.before.before.before.before.before.before.new-none.ensures
     (ap table_read (turn_refuses _ _ l.i _ l.invariant (search rules)
-    (came extension_res b.bad-1.given.1 p.parse.ensures) m.moved.ensures))
+    (came extension_res b.in-Refused.is p.parse.ensures) m.moved.ensures))
 
 loop-again : tie.Need-loop-i-preserved invariant-loop decreases-loop
 loop-again c =
