@@ -115,7 +115,8 @@ class Names:
         if rest and rest[0] == "fits":
             return ["ranges"] + rest[1:]
         got = self.steps.get(plain(rest[0])) if rest else None
-        if got and len(got) == 1 and plain(rest[0]):
+        told = ("ensures", "given", "result", "new", "taken", "left", "true", "false", "inv", "invariant", "branch")
+        if got and len(got) == 1 and len(rest) > 1 and rest[1] in told:
             return [next(iter(got))] + rest[1:]
         return rest
 

@@ -10,8 +10,8 @@ abbrev self : tie.Start → Held
 self b = b.args.self
 
 -- what a slot says of the table
-by_slot : (h : Held) {s : Slot} → h.slot ≡ s → in_force s h.table-1 ≡ in_force h.slot h.table-1
-by_slot h e = ap (λ s. in_force s h.table-1) (sym e)
+by_slot : (h : Held) {s : Slot} → h.slot ≡ s → in_force s h.table ≡ in_force h.slot h.table
+by_slot h e = ap (λ s. in_force s h.table) (sym e)
 
 -- the table is in force
 set : (c : tie.In-Set) →

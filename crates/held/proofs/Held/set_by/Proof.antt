@@ -19,7 +19,7 @@ keep : Table → Verdict → Held
 keep t v = record { table = t; slot = slot_of v }
 
 -- what the table's reader answers is what is held
-kept : {r : TableRead} (m : Res (List Extension)) → r ≡ table_read m → keep r.table-1 r.verdict-1 ≡ set_by_of m
+kept : {r : TableRead} (m : Res (List Extension)) → r ≡ table_read m → keep r.table r.verdict ≡ set_by_of m
 unfolding table_read set_by_of spoiled keep slot_of
 kept (ok ds) p = rw p
 kept (no n) p = rw p
