@@ -101,7 +101,7 @@ class Names:
                 return out + [arm[0], new] + rest[1 + k:]
         if plain(rest[0]) == self.at[target][1] and self.at[target][1]:
             return out + [self.at[target][2]] + rest[1:]
-        return out + self.any_step(rest)
+        return out + self.any_step(rest, True)
 
     def as_step(self, rest):
         """The path with its first name as a step, where a name of the repository's own had been taken for it."""
@@ -111,8 +111,8 @@ class Names:
                 return [short] + rest[1:]
         return rest
 
-    def any_step(self, rest):
-        if rest and rest[0] == "fits":
+    def any_step(self, rest, known=False):
+        if known and rest and rest[0] == "fits":
             return ["ranges"] + rest[1:]
         got = self.steps.get(plain(rest[0])) if rest else None
         told = ("ensures", "given", "result", "new", "taken", "left", "true", "false", "inv", "invariant", "branch")
