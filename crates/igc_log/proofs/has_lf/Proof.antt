@@ -21,10 +21,10 @@ loop-again : tie.Need-loop-i-preserved invariant-loop decreases-loop
 loop-again c =
     let l = c.before.before.before.loop-i in
     elim c.if-block-i-eq10.branch [
-      then-block-i-eq10 w ↦
-        (search rules, rw w.any-is (has_here _ l.i l.any l.invariant.1 (search rules) w.if-block-i-eq10.true))
+      | then-block-i-eq10 w ↦
+          (search rules, rw w.any-is (has_here _ l.i l.any l.invariant.1 (search rules) w.if-block-i-eq10.true))
       | else-block-i-eq10 w ↦
-        (search rules, rw w.any-is (has_later _ l.i l.any l.invariant.1 (search rules) w.if-block-i-eq10.false))
+          (search rules, rw w.any-is (has_later _ l.i l.any l.invariant.1 (search rules) w.if-block-i-eq10.false))
     ]
 
 ends : tie.Need-returns invariant-loop decreases-loop

@@ -29,7 +29,7 @@ unfolding ◌=?◌
 loop-again c = let s = c.before.before in let l = s.before.before.loop-place in
     second _ (letter_passed s.listed-row.ensures.2 (λ e.
     elim c.else-row-letter.branch [
-      else-row-letter-via-then-row-letter+else-letter-ne-NONE w ↦ yes= w.if-letter-ne-NONE.false
+      | else-row-letter-via-then-row-letter+else-letter-ne-NONE w ↦ yes= w.if-letter-ne-NONE.false
       | else-row-letter-via-else-row-letter w ↦ absurd (w.if-row-letter.false e)
     ])) refl
     ∙ turn (test _) _ l.place (search rules) s.listed-row.ensures.0 ∙ l.invariant
