@@ -1,5 +1,7 @@
 // What bench/ times: whole logs through the public reader. Each answer is a figure over all that a fresh walk reads, so
 // that no reading can be left out.
+#![tactic(auto)]
+
 pub mod moments;
 
 ghost use Rattle.std.specs.Prelude.{◌≡◌};
