@@ -10,7 +10,7 @@ use Rattle.bench_loops.proofs.of_reading.Tie as tie
 seen : (c : tie.After-fix) {f : MaybeFix} → c.fix.result ≡ f →
     of_accepted f ≡ of_answer (reading_res c.before.before.args.reading)
 unfolding of_answer
-seen c e = rw c.before.before.reading-1.given.1 (ap of_accepted (sym e ∙ c.fix.ensures))
+seen c e = rw c.before.in-Accepted.is (ap of_accepted (sym e ∙ c.fix.ensures))
 
 pub of_reading_spec : {M : Type 1} → statement M
 unfolding of_answer of_accepted
