@@ -249,6 +249,27 @@ def preludes(text):
     return re.sub(r"(?<![\w.'-])needs(?![\w'-])", "rules", text)
 
 
+# What the gate wants taken from the library itself wherever a contract or a definition names it.
+OPERATORS = """◌%◌ ◌&&◌ ◌*ℤ◌ ◌*◌ ◌++◌ ◌+ℤ◌ ◌+◌ ◌-ℤ◌ ◌-◌ ◌/◌ ◌<ℤ◌ ◌<◌ ◌==◌ ◌^◌ ◌||◌ ◌↔◌ ◌∷◌ ◌≡◌ ◌≢◌ ◌≤ℤ◌ ◌≤◌ ◌⊎◌""".split()
+
+
+def operators(text):
+    """Takes the library's operators from std's Prelude, and no more by way of text's."""
+    def one(m):
+        names = [n.strip() for n in m.group(3).split(",") if n.strip()]
+        theirs = [n for n in names if n in OPERATORS]
+        left = [n for n in names if n not in OPERATORS]
+        if not theirs:
+            return m.group(0)
+        end = m.group(4)
+        lines = [m.group(1) + "use Rattle.std.specs.Prelude.{" + ", ".join(theirs) + "}" + end]
+        if left:
+            lines.append(m.group(1) + "use Rattle." + m.group(2) + ".{" + ", ".join(left) + "}" + end)
+        return "\n".join(lines)
+
+    return re.sub(r"(?m)^((?:ghost )?)use Rattle\.(text\.specs\.Prelude)\.\{([^}]*)\}(;?)", one, text)
+
+
 def clauses(text, turn):
     """Turns the ghost lines, clauses and ghost fields of a source file."""
     out, i = [], 0
@@ -316,6 +337,8 @@ def main():
                 for n in names:
                     mine.pop(n.split(" as ")[-1].strip(), None)
         u = preludes(now_behind(turned(t, mine, fields)))
+        if "specs" in p.parts:
+            u = operators(u)
         if "proofs" in p.parts and p.name == "Proof.antt":
             u = re.sub(r"(?m)^(pub )([\w-]+)-spec\b", lambda m: m.group(1) + m.group(2).replace("-", "_") + "_spec", u)
             u = re.sub(r"(?m)^([\w-]+)-spec( [^:\n]*)?=", lambda m: m.group(1).replace("-", "_") + "_spec" + (m.group(2) or " ") + "=", u)
@@ -323,7 +346,7 @@ def main():
             p.write_text(u)
     for p in rt_files():
         t = p.read_text()
-        u = clauses(t, lambda s: turned(s, new, fields))
+        u = operators(clauses(t, lambda s: turned(s, new, fields)))
         if u != t:
             p.write_text(u)
 

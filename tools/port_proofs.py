@@ -34,6 +34,7 @@ class Names:
         self.needs = {plain(a): b for a, b in entry["needs"]}
         self.order = [plain(a) for a, b in entry["needs"]]
         self.asked = [plain(a) for a, b in entry["asked_at"]]
+        self.args = [tuple(x.replace(" .", ".") for x in pair) for pair in entry["args"]]
         self.loops = {plain(l[0][0]): l[0][1] for l in entry["loops"]}
         self.arms = {plain(p[0]): a for p, a in zip(self.places, entry["arms"]) if a}
         self.steps = {}
@@ -65,7 +66,7 @@ class Names:
         b = 0
         while b < len(parts) and parts[b] == "before":
             b += 1
-        rest = parts[b:]
+        rest = self.as_step(parts[b:])
         if not place:
             return parts[:b] + self.any_step(rest)
         chain = self.ups(place)
@@ -100,13 +101,22 @@ class Names:
                 return out + [arm[0], new] + rest[1 + k:]
         if plain(rest[0]) == self.at[target][1] and self.at[target][1]:
             return out + [self.at[target][2]] + rest[1:]
-        return out + self.any_step(rest)
+        return out + self.any_step(rest, True)
 
-    def any_step(self, rest):
-        if rest and rest[0] == "fits":
+    def as_step(self, rest):
+        """The path with its first name as a step, where a name of the repository's own had been taken for it."""
+        if rest and plain(rest[0]) not in self.steps:
+            short = re.sub(r"_(lem|of)$", "", plain(rest[0]))
+            if short in self.steps:
+                return [short] + rest[1:]
+        return rest
+
+    def any_step(self, rest, known=False):
+        if known and rest and rest[0] == "fits":
             return ["ranges"] + rest[1:]
         got = self.steps.get(plain(rest[0])) if rest else None
-        if got and len(got) == 1 and plain(rest[0]):
+        told = ("ensures", "given", "result", "new", "taken", "left", "true", "false", "inv", "invariant", "branch")
+        if got and len(got) == 1 and len(rest) > 1 and rest[1] in told:
             return [next(iter(got))] + rest[1:]
         return rest
 
@@ -129,7 +139,7 @@ def turn(text, n):
 
     # The place of each variable, by the definition that it stands in.
     blocks = re.split(r"(?m)^(?=\S)", text)
-    out, signature = [], {}
+    out, signature, typed = [], {}, {}
     for b in blocks:
         env = {}
         head = re.match(r"(?:(?:abbrev|pub|unfoldable) )*(" + IDENT + r") :\s*((?:.|\n)*)", b)
@@ -141,10 +151,13 @@ def turn(text, n):
                 key = plain(need.group(1))
                 key = re.sub(r"^overflow_", "", key) if key not in n.place_of_need else key
                 kinds = [n.place_of_need.get(key)]
+                if key in n.order:
+                    typed[name] = n.order.index(key)
             else:
                 for binder in re.finditer(r"\((" + IDENT + r"(?: " + IDENT + r")*) : tie\.(" + IDENT + r")", ty):
                     for v in binder.group(1).split():
                         env[v] = plain(binder.group(2))
+                ty = re.sub(r"\s+", " ", ty)
                 m = re.match(r"\s*((?:tie\." + IDENT + r" → |\([^()]*\) → |\{[^{}]*\} → )*)", ty)
                 for part in re.findall(r"tie\.(" + IDENT + r") →|\(([^():]*) : tie\.(" + IDENT + r")[^()]*\) →|(\([^()]*\)) →", m.group(1)):
                     if part[0]:
@@ -161,16 +174,19 @@ def turn(text, n):
             for a, k in zip(args, signature[clause.group(1)]):
                 if k:
                     env[a] = k
-        for m in re.finditer(r"(" + IDENT + r") : tie\.(" + IDENT + r")(?= =)", b):
+        for m in re.finditer(r"(" + IDENT + r") : tie\.(" + IDENT + r")(?=[^=:]* =)", b):
             env[m.group(1)] = plain(m.group(2))
         spec = re.search(r"tie\.spec\b", b)
         if spec:
-            b = spec_args(b, spec.end(), n, env)
+            b = spec_args(b, spec.end(), n, env, typed)
         else:
             b = paths(b, n, env)
         out.append(b)
     text = "".join(out)
     text = re.sub(r"tie\.(" + IDENT + ")", tie, text)
+    for old, new in n.args:
+        if old.startswith("."):
+            text = re.sub(re.escape(old) + r"(?![\w'-])", new, text)
     # A test of `!f(x)` is told as what f answered.
     return re.sub(r"not-(?:true|false) _ (c\.)", r"\1", text)
 
@@ -237,22 +253,69 @@ def arguments(b, at):
     return spans
 
 
-def spec_args(b, at, n, env):
+def placed(b, spans, n, typed):
+    """Which goal each argument answers; None where a search answers a goal that today's Rattle has no more.
+
+    Beside it, how many searches go in front of an argument, for goals that are new."""
+    first = 2 * len(n.loops)
+    goal, missing, shift = {}, {}, 0
+    for k, (i, j) in enumerate(spans):
+        if k < first:
+            goal[k] = -1
+            continue
+        want = typed.get(b[i:j].strip())
+        if want is not None:
+            now = k - first + shift
+            back = k - 1
+            while now > want and back >= first:
+                if b[spans[back][0]:spans[back][1]].startswith("(search") and goal[back] is not None:
+                    goal[back] = None
+                    shift -= 1
+                    now -= 1
+                    for q in range(back + 1, k):
+                        if goal[q] is not None:
+                            goal[q] -= 1
+                back -= 1
+            if now < want:
+                missing[k] = want - now
+                shift += want - now
+        goal[k] = k - first + shift
+    surplus = len(spans) - first + shift - len(n.order)
+    back = len(spans) - 1
+    while surplus > 0 and back >= first:
+        if b[spans[back][0]:spans[back][1]].startswith("(search") and goal[back] is not None:
+            goal[back] = None
+            surplus -= 1
+            for q in range(back + 1, len(spans)):
+                if goal[q] is not None:
+                    goal[q] -= 1
+        elif typed.get(b[spans[back][0]:spans[back][1]].strip()) is not None:
+            break
+        back -= 1
+    if surplus < 0:
+        missing[len(spans)] = -surplus
+    return goal, missing
+
+
+def spec_args(b, at, n, env, typed):
     spans = arguments(b, at)
-    extra = len(spans) - len(n.order)
+    goal, missing = placed(b, spans, n, typed)
     out, last = [paths(b[:at], n, env)], at
     for k, (i, j) in enumerate(spans):
         out.append(b[last:i])
-        here = dict(env)
-        need = k - extra
-        m = re.match(r"\(λ (" + IDENT + ")", b[i:j])
-        if m and extra >= 0 and need >= 0 and need < len(n.asked):
-            here[m.group(1)] = n.asked[need]
-        out.append(paths(b[i:j], n, here))
         last = j
+        out.append("(search rules) " * missing.get(k, 0))
+        if goal[k] is None:
+            continue
+        here = dict(env)
+        m = re.match(r"\(λ (" + IDENT + ")", b[i:j])
+        if m and 0 <= goal[k] < len(n.asked):
+            here[m.group(1)] = n.asked[goal[k]]
+        out.append(paths(b[i:j], n, here))
+    out.append(" (search rules)" * missing.get(len(spans), 0))
     out.append(paths(b[last:], n, env))
-    if extra < 0:
-        print("look: fewer arguments than goals:", extra)
+    if missing or None in goal.values():
+        print("look: arguments moved:", [k for k in goal if goal[k] is None], missing)
     return "".join(out)
 
 

@@ -1,5 +1,6 @@
 -- A lines: the recorder's maker and number.
-use Rattle.text.specs.Prelude.{ℕ, ◌+◌, code, Bool, List, [], ◌∷◌, ◌++◌, length, Res, ok, no, bind, guard, pick, ◌≤?◌}
+use Rattle.std.specs.Prelude.{◌+◌, ◌∷◌, ◌++◌}
+use Rattle.text.specs.Prelude.{ℕ, code, Bool, List, [], length, Res, ok, no, bind, guard, pick, ◌≤?◌}
 use Rattle.text.specs.Prelude.{◌=?◌, ◌∧?◌, byte, cut, all_digits_of}
 use Rattle.part.specs.Part.{name_from, part_text, maybe_text, part_bytes, maybe_bytes}
 use Rattle.text.specs.declared.refusal.Refusal.TheVariants.{Syntax, NotAscii}

@@ -1,4 +1,6 @@
 // A lines, as src/records/a_record.rs has them.
+#![tactic(auto)]
+
 ghost use Rattle.std.specs.Prelude.{◌≡◌, ◌+◌, ◌≤◌, length};
 ghost use Rattle.part.specs.Part.{find_part, find_maybe, shown, Shows};
 ghost use Rattle.put.specs.Put.{Wrote};

@@ -1,5 +1,6 @@
 -- What the cut at a place tells of the lines that are left from there on.
-use Rattle.text.specs.Prelude.{ℕ, ◌-◌, ◌≤◌, ◌<◌, ◌≡◌, List, ◌∷◌, length, take, drop}
+use Rattle.std.specs.Prelude.{◌-◌, ◌≤◌, ◌<◌, ◌≡◌, ◌∷◌}
+use Rattle.text.specs.Prelude.{ℕ, List, length, take, drop}
 use Rattle.part.specs.Part.{part_bytes}
 use Rattle.igc_log.specs.Line.{line_text, cut_at}
 use Rattle.igc_log.specs.Log.{chunks}

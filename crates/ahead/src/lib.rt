@@ -1,5 +1,7 @@
 // The lines that are left of a text from a place on, told by a contract: for what stands above the reader and sees its
 // promises alone.
+#![tactic(auto)]
+
 ghost use Rattle.std.specs.Prelude.{◌≡◌};
 ghost use Rattle.ahead.specs.Ahead.{Ahead};
 

@@ -1,5 +1,7 @@
 // B lines whose numbers are plain digits, as nearly all are: tested in blocks and read without a test at each byte.
 // Where this way says no, nothing is said, and `BRecord::parse` decides.
+#![tactic(auto)]
+
 ghost use Rattle.std.specs.Prelude.{◌≡◌, true, ◌≤◌, length};
 ghost use Rattle.text.specs.Res.{pick};
 ghost use Rattle.text.specs.Number.{all_digits_of, value_from};

@@ -1,4 +1,6 @@
 // B lines, as src/records/b_record.rs has them.
+#![tactic(auto)]
+
 ghost use Rattle.std.specs.Prelude.{◌≡◌, ◌≤◌, length};
 ghost use Rattle.part.specs.Part.{find_part, part_bytes, shown, Shows, found_res};
 ghost use Rattle.extension.specs.Value.{find_value};

@@ -1,5 +1,6 @@
 -- What is timed: figures over the readings of a fresh walk, in 64 bits.
-use Rattle.text.specs.Prelude.{ℕ, ◌+◌, ◌%◌, ◌^◌, ◌≡◌, List, length, ℤ, pos, negsuc, Res, ok, no, byte}
+use Rattle.std.specs.Prelude.{◌+◌, ◌%◌, ◌^◌, ◌≡◌}
+use Rattle.text.specs.Prelude.{ℕ, List, length, ℤ, pos, negsuc, Res, ok, no, byte}
 use Rattle.part.specs.Part.{bytes_of, shown}
 use Rattle.field.specs.declared.Mnemonic.{Mnemonic}
 use Rattle.print.specs.Print.{answer_to, left_by}

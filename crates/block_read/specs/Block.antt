@@ -1,5 +1,6 @@
 -- The block of all logs read from a sheet, line by line, each in the form in which it is printed.
-use Rattle.text.specs.Prelude.{ℕ, zero, suc, ◌+◌, ◌-◌, code, Bool, true, false, List, [], ◌∷◌, ◌++◌, length, drop, pick}
+use Rattle.std.specs.Prelude.{◌+◌, ◌-◌, ◌∷◌, ◌++◌}
+use Rattle.text.specs.Prelude.{ℕ, zero, suc, code, Bool, true, false, List, [], length, drop, pick}
 use Rattle.text.specs.Prelude.{◌=?◌, LF, ℤ, largest}
 use Rattle.text.specs.Spelt.{spelt}
 use Rattle.report.specs.Range.{Range, none, between}

@@ -1,5 +1,6 @@
 -- What the code carries from reader to reader: a place, and whether all before it was as it should be.
-use Rattle.text.specs.Prelude.{ℕ, ◌≤◌, ◌≡◌, List, [], ◌∷◌, length, drop, pick, ◌≤?◌, largest}
+use Rattle.std.specs.Prelude.{◌≤◌, ◌≡◌, ◌∷◌}
+use Rattle.text.specs.Prelude.{ℕ, List, [], length, drop, pick, ◌≤?◌, largest}
 use Rattle.block_read.specs.Read.{Read, got, wrong, front_from}
 use Rattle.block_read.specs.declared.{number.Place.Place, number.FrontRead.FrontRead}
 

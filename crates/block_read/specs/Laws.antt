@@ -1,5 +1,6 @@
 -- Reading a block undoes printing it.
-use Rattle.text.specs.Prelude.{ℕ, ◌≤◌, ◌≡◌, true, List, ◌++◌, length, ℤ, pos, negsuc, largest}
+use Rattle.std.specs.Prelude.{◌≤◌, ◌≡◌, ◌++◌}
+use Rattle.text.specs.Prelude.{ℕ, true, List, length, ℤ, pos, negsuc, largest}
 use Rattle.report.specs.Counts.{numbers}
 use Rattle.span.specs.declared.{pressure.PressureSpot.PressureSpot, gps.GpsSpot.GpsSpot}
 use Rattle.total.specs.Total.{Totals, total_fits}

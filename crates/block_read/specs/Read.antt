@@ -1,5 +1,6 @@
 -- Words and numbers of a sheet, read as they are printed.
-use Rattle.text.specs.Prelude.{ℕ, ◌+◌, ◌-◌, ◌*◌, code, Bool, true, false, List, [], ◌∷◌, ◌++◌, length, drop, pick}
+use Rattle.std.specs.Prelude.{◌+◌, ◌-◌, ◌*◌, ◌∷◌, ◌++◌}
+use Rattle.text.specs.Prelude.{ℕ, code, Bool, true, false, List, [], length, drop, pick}
 use Rattle.text.specs.Prelude.{◌≤?◌, ◌=?◌, ◌∧?◌, byte, is_digit_of, padded, ℤ, pos, LF, largest}
 use Rattle.std.specs.Prelude.{neg_ℤ}
 

@@ -1,5 +1,6 @@
 -- C lines: which of them is a turnpoint's, and a task's declaration.
-use Rattle.text.specs.Prelude.{ℕ, code, Bool, true, List, [], ◌∷◌, ◌++◌, length, replicate, Res, ok, no, bind, guard}
+use Rattle.std.specs.Prelude.{◌∷◌, ◌++◌}
+use Rattle.text.specs.Prelude.{ℕ, code, Bool, true, List, [], length, replicate, Res, ok, no, bind, guard}
 use Rattle.text.specs.Prelude.{pick, ◌≤?◌, ◌=?◌, ◌∧?◌, ◌∨?◌, byte, cut, columns, read_nat_of, read_int_of, zeros, padded}
 use Rattle.text.specs.Prelude.{signed}
 use Rattle.part.specs.Part.{name_from, maybe_text, maybe_bytes}

@@ -1,4 +1,6 @@
 // C lines, as src/records/c_record.rs has them: which of them is a turnpoint's, and a task's declaration.
+#![tactic(auto)]
+
 ghost use Rattle.std.specs.Prelude.{◌≡◌, ◌≤◌, length};
 ghost use Rattle.part.specs.Part.{find_maybe, maybe_bytes, shown, Shows};
 ghost use Rattle.text.specs.Number.{zeros};

@@ -1,5 +1,6 @@
 -- C lines: a turnpoint of a task.
-use Rattle.text.specs.Prelude.{ℕ, code, Bool, List, [], ◌∷◌, ◌++◌, length, Res, ok, no, bind, guard, ◌≤?◌, ◌=?◌}
+use Rattle.std.specs.Prelude.{◌∷◌, ◌++◌}
+use Rattle.text.specs.Prelude.{ℕ, code, Bool, List, [], length, Res, ok, no, bind, guard, ◌≤?◌, ◌=?◌}
 use Rattle.text.specs.Prelude.{byte, cut, columns}
 use Rattle.part.specs.Part.{name_from, maybe_text, maybe_bytes}
 use Rattle.text.specs.declared.refusal.Refusal.TheVariants.{Syntax}

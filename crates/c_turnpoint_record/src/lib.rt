@@ -1,4 +1,6 @@
 // Turnpoints of a task, as src/records/c_record.rs has them.
+#![tactic(auto)]
+
 ghost use Rattle.std.specs.Prelude.{◌≡◌};
 ghost use Rattle.part.specs.Part.{find_maybe, shown, Shows};
 ghost use Rattle.put.specs.Put.{Wrote};

@@ -1,6 +1,7 @@
 -- The days of a month, of a year that is known by its last two digits: 80 to 99 stand for 1980 to 1999, and 0 to 79 for
 -- 2000 to 2079.
-use Rattle.text.specs.Prelude.{ℕ, ◌%◌, Bool, List, [], ◌∷◌, get_or, pick, ◌=?◌}
+use Rattle.std.specs.Prelude.{◌%◌, ◌∷◌}
+use Rattle.text.specs.Prelude.{ℕ, Bool, List, [], get_or, pick, ◌=?◌}
 
 -- The days of January to December, by the days of February.
 unfoldable pub months : ℕ → List ℕ

@@ -1,5 +1,6 @@
 -- The Gregorian calendar by its full rules, and that the days of a month are those of 1980 to 2079.
-use Rattle.text.specs.Prelude.{ℕ, ◌+◌, ◌%◌, ◌≤◌, ◌≡◌, Bool, not, pick, ◌≤?◌, ◌=?◌, ◌∧?◌, ◌∨?◌}
+use Rattle.std.specs.Prelude.{◌+◌, ◌%◌, ◌≤◌, ◌≡◌}
+use Rattle.text.specs.Prelude.{ℕ, Bool, not, pick, ◌≤?◌, ◌=?◌, ◌∧?◌, ◌∨?◌}
 use Rattle.calendar.specs.Days.{days_in_of}
 
 -- Every fourth year is a leap year; of the years that a hundred divides only those that four hundred divides.

@@ -1,6 +1,7 @@
 -- A caption: a part of one of two lent texts, the point's line and the club's labels.
 use Rattle.std.specs.Borrow.{Bor}
-use Rattle.text.specs.Prelude.{ℕ, zero, suc, ◌+◌, ◌≡◌, List, [], ◌∷◌, length, pick, ◌≤?◌}
+use Rattle.std.specs.Prelude.{◌+◌, ◌≡◌, ◌∷◌}
+use Rattle.text.specs.Prelude.{ℕ, zero, suc, List, [], length, pick, ◌≤?◌}
 use Rattle.part.specs.Part.{bytes_of, find_maybe, shown}
 use Rattle.part.specs.declared.Part.{Part}
 use Rattle.c_turnpoint_record.specs.declared.CRecordTurnpoint.{CRecordTurnpoint}

@@ -1,4 +1,6 @@
 // A point's caption: its own name in its line, or the club's label in a text that is lent beside the line.
+#![tactic(auto)]
+
 ghost use Rattle.std.specs.Prelude.{◌≡◌, ◌+◌, ◌≤◌, length};
 ghost use Rattle.igc_log.specs.Log.{chunks};
 ghost use Rattle.caption.specs.Caption.{nth, caption_of, ShowsOne};

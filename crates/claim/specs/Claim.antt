@@ -1,5 +1,6 @@
 -- The verdict on a record claim: yes exactly when all rules hold, and a no names the first line at which one fails.
-use Rattle.text.specs.Prelude.{ℕ, zero, suc, ◌+◌, Bool, not, List, length, take, pick, ◌∧?◌}
+use Rattle.std.specs.Prelude.{◌+◌}
+use Rattle.text.specs.Prelude.{ℕ, zero, suc, Bool, not, List, length, take, pick, ◌∧?◌}
 use Rattle.walk.specs.Readings.{Line-read}
 use Rattle.claim.specs.Rules.{holds}
 use Rattle.claim.specs.declared.{verdict.Rule.Rule, verdict.Verdict.Verdict}

@@ -1,5 +1,6 @@
 -- What the verdict says, and that the walk line by line, whatever the pieces of a log, decides it.
-use Rattle.text.specs.Prelude.{ℕ, ◌+◌, ◌-◌, ◌≤◌, ◌<◌, max, ◌≡◌, true, false, not, List, [], ◌∷◌, ◌++◌, length, take}
+use Rattle.std.specs.Prelude.{◌+◌, ◌-◌, ◌≤◌, ◌<◌, ◌≡◌, ◌∷◌, ◌++◌}
+use Rattle.text.specs.Prelude.{ℕ, max, true, false, not, List, [], length, take}
 use Rattle.text.specs.Prelude.{drop, ◌∧?◌, ◌∨?◌, largest}
 use Rattle.igc_log.specs.Line.{has_lf_of}
 use Rattle.igc_log.specs.Log.{closed, readings}

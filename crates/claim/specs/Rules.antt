@@ -1,6 +1,7 @@
 -- The rules of a record claim, in the order of the request, each a property of all readings of a log by itself; and at
 -- which line each fails.
-use Rattle.text.specs.Prelude.{ℕ, code, ◌+◌, Bool, true, false, not, List, [], ◌∷◌, length, pick, ◌≤?◌, ◌=?◌, ◌∧?◌}
+use Rattle.std.specs.Prelude.{◌+◌, ◌∷◌}
+use Rattle.text.specs.Prelude.{ℕ, code, Bool, true, false, not, List, [], length, pick, ◌≤?◌, ◌=?◌, ◌∧?◌}
 use Rattle.text.specs.Prelude.{◌∨?◌, begins}
 use Rattle.time.specs.Time.{seconds_of_lem}
 use Rattle.records.specs.Record.{answer_fix}

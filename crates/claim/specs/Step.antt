@@ -1,5 +1,6 @@
 -- The walk that decides a claim line by line.
-use Rattle.text.specs.Prelude.{ℕ, ◌+◌, Bool, true, false, not, List, length, pick, ◌≤?◌, ◌=?◌, ◌∧?◌, ◌∨?◌, largest}
+use Rattle.std.specs.Prelude.{◌+◌}
+use Rattle.text.specs.Prelude.{ℕ, Bool, true, false, not, List, length, pick, ◌≤?◌, ◌=?◌, ◌∧?◌, ◌∨?◌, largest}
 use Rattle.igc_log.specs.Log.{readings}
 use Rattle.igc_log.specs.Fold.{over}
 use Rattle.report.specs.Figures.{earlier}

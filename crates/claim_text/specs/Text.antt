@@ -1,5 +1,6 @@
 -- The text of a verdict.
-use Rattle.text.specs.Prelude.{ℕ, code, List, [], ◌∷◌, ◌++◌, LF, padded}
+use Rattle.std.specs.Prelude.{◌∷◌, ◌++◌}
+use Rattle.text.specs.Prelude.{ℕ, code, List, [], LF, padded}
 use Rattle.text.specs.Spelt.{spelt}
 use Rattle.claim.specs.declared.{verdict.Rule.Rule, verdict.Verdict.Verdict}
 

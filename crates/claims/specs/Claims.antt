@@ -1,5 +1,6 @@
 -- What is taken of a log that goes through a window to be judged as a claim.
-use Rattle.text.specs.Prelude.{ℕ, ◌+◌, ◌-◌, ◌≡◌, Bool, true, false, List, ◌++◌, length, take, drop, pick, ◌≤?◌, ◌=?◌}
+use Rattle.std.specs.Prelude.{◌+◌, ◌-◌, ◌≡◌, ◌++◌}
+use Rattle.text.specs.Prelude.{ℕ, Bool, true, false, List, length, take, drop, pick, ◌≤?◌, ◌=?◌}
 use Rattle.text.specs.Prelude.{largest}
 use Rattle.std.proofs.lemmas.List.Edits.{sets}
 use Rattle.igc_log.specs.Log.{readings}

@@ -1,4 +1,6 @@
 // Latitude and longitude, types apart over one coordinate.
+#![tactic(auto)]
+
 pub mod degrees;
 
 ghost use Rattle.std.specs.Prelude.{◌≡◌};

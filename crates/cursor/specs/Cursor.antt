@@ -1,5 +1,6 @@
 -- A place in a log and the number of lines read so far.
-use Rattle.text.specs.Prelude.{ℕ, ◌+◌, List, length, pick, ◌≤?◌, ◌∧?◌, largest}
+use Rattle.std.specs.Prelude.{◌+◌}
+use Rattle.text.specs.Prelude.{ℕ, List, length, pick, ◌≤?◌, ◌∧?◌, largest}
 use Rattle.igc_log.specs.Line.{cut_at}
 use Rattle.igc_log.specs.declared.Cut.{Cut}
 use Rattle.cursor.specs.declared.{Cursor.Cursor, Next.Next}

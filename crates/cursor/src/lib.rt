@@ -1,5 +1,7 @@
 // A place in a log and the number of lines read so far. It is small, so a loop over a log carries it and keeps the
 // table apart.
+#![tactic(auto)]
+
 ghost use Rattle.std.specs.Prelude.{◌≡◌};
 ghost use Rattle.cursor.specs.Cursor.{start, next_of};
 

@@ -1,5 +1,6 @@
 -- D lines: differential GPS, and its station.
-use Rattle.text.specs.Prelude.{ℕ, code, List, [], ◌∷◌, ◌++◌, length, Res, ok, no, bind, guard, pick, ◌=?◌, byte}
+use Rattle.std.specs.Prelude.{◌∷◌, ◌++◌}
+use Rattle.text.specs.Prelude.{ℕ, code, List, [], length, Res, ok, no, bind, guard, pick, ◌=?◌, byte}
 use Rattle.text.specs.declared.refusal.Refusal.TheVariants.{Syntax}
 use Rattle.part.specs.Part.{part_text, part_bytes}
 use Rattle.field.specs.Field.{ascii}

@@ -1,4 +1,6 @@
 // D lines, as src/records/d_record.rs has them.
+#![tactic(auto)]
+
 ghost use Rattle.std.specs.Prelude.{◌≡◌};
 ghost use Rattle.part.specs.Part.{find_part, shown, Shows};
 ghost use Rattle.put.specs.Put.{Wrote};

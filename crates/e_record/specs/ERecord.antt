@@ -1,5 +1,6 @@
 -- E lines: events of the flight.
-use Rattle.text.specs.Prelude.{ℕ, code, Bool, List, [], ◌∷◌, ◌++◌, length, Res, ok, no, bind, guard, ◌≤?◌, ◌=?◌}
+use Rattle.std.specs.Prelude.{◌∷◌, ◌++◌}
+use Rattle.text.specs.Prelude.{ℕ, code, Bool, List, [], length, Res, ok, no, bind, guard, ◌≤?◌, ◌=?◌}
 use Rattle.text.specs.Prelude.{byte, cut, columns}
 use Rattle.text.specs.declared.refusal.Refusal.TheVariants.{Syntax}
 use Rattle.part.specs.Part.{name_from, part_text, maybe_text, part_bytes, maybe_bytes}

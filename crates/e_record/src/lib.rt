@@ -1,4 +1,6 @@
 // E lines, as src/records/e_record.rs has them.
+#![tactic(auto)]
+
 ghost use Rattle.std.specs.Prelude.{◌≡◌};
 ghost use Rattle.part.specs.Part.{find_part, find_maybe, shown, Shows};
 ghost use Rattle.put.specs.Put.{Wrote};

@@ -1,5 +1,6 @@
 -- One definition of an extension: SSEEMMM.
-use Rattle.text.specs.Prelude.{ℕ, ◌+◌, List, ◌++◌, length, Res, ok, no, bind, guard, ◌≤?◌, ◌=?◌, ◌∧?◌, byte, columns}
+use Rattle.std.specs.Prelude.{◌+◌, ◌++◌}
+use Rattle.text.specs.Prelude.{ℕ, List, length, Res, ok, no, bind, guard, ◌≤?◌, ◌=?◌, ◌∧?◌, byte, columns}
 use Rattle.text.specs.Prelude.{read_nat_of, padded}
 use Rattle.text.specs.declared.refusal.Refusal.TheVariants.{Syntax, BadExtension}
 use Rattle.field.specs.Field.{mnemonic_text}

@@ -1,5 +1,6 @@
 -- Extension values: the part of a line that a definition names. Starts and ends are columns counted from 1.
-use Rattle.text.specs.Prelude.{ℕ, ◌+◌, ◌-◌, List, Res, ok, bind, guard, ◌≤?◌}
+use Rattle.std.specs.Prelude.{◌+◌, ◌-◌}
+use Rattle.text.specs.Prelude.{ℕ, List, Res, ok, bind, guard, ◌≤?◌}
 use Rattle.part.specs.Part.{find_part}
 use Rattle.text.specs.declared.refusal.Refusal.TheVariants.{BadExtension, MissingExtension}
 use Rattle.part.specs.declared.Part.{Part}

@@ -1,5 +1,6 @@
 // One definition of an extension, as the first half of src/records/extension.rs has it.
 #![tactic(auto)]
+
 pub mod value;
 
 ghost use Rattle.std.specs.Prelude.{◌≡◌};

@@ -1,5 +1,6 @@
 -- F lines: the satellites from a time on.
-use Rattle.text.specs.Prelude.{ℕ, code, Bool, List, [], ◌∷◌, ◌++◌, length, drop, Res, ok, no, bind, guard, ◌≤?◌}
+use Rattle.std.specs.Prelude.{◌∷◌, ◌++◌}
+use Rattle.text.specs.Prelude.{ℕ, code, Bool, List, [], length, drop, Res, ok, no, bind, guard, ◌≤?◌}
 use Rattle.text.specs.Prelude.{columns}
 use Rattle.text.specs.declared.refusal.Refusal.TheVariants.{Syntax}
 use Rattle.part.specs.Part.{rest_from, part_text, part_bytes}

@@ -1,5 +1,6 @@
 -- What the set of an F line's record says of the list in that line.
-use Rattle.text.specs.Prelude.{ℕ, ◌≡◌, List, drop, ok}
+use Rattle.std.specs.Prelude.{◌≡◌}
+use Rattle.text.specs.Prelude.{ℕ, List, drop, ok}
 use Rattle.satellites.specs.Satellites.{occurs, different, numbers, has_number, count_of}
 use Rattle.f_record.specs.FRecord.{read_f}
 use Rattle.f_record.specs.declared.FRecord.{FRecord}

@@ -1,4 +1,6 @@
 // F lines, as src/records/f_record.rs has them.
+#![tactic(auto)]
+
 ghost use Rattle.std.specs.Prelude.{◌≡◌};
 ghost use Rattle.part.specs.Part.{find_part, shown, Shows};
 ghost use Rattle.put.specs.Put.{Wrote};

@@ -1,5 +1,6 @@
 -- What every field is read by: its length, ASCII, and its columns.
-use Rattle.text.specs.Prelude.{ℕ, Bool, true, List, [], ◌∷◌, ◌++◌, length, Res, guard, ◌≤?◌, ◌=?◌}
+use Rattle.std.specs.Prelude.{◌∷◌, ◌++◌}
+use Rattle.text.specs.Prelude.{ℕ, Bool, true, List, [], length, Res, guard, ◌≤?◌, ◌=?◌}
 use Rattle.text.specs.Prelude.{◌∧?◌}
 use Rattle.text.specs.declared.refusal.Refusal.TheVariants.{NotAscii, WrongLength}
 use Rattle.field.specs.declared.Mnemonic.{Mnemonic}

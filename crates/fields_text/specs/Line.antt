@@ -1,5 +1,6 @@
 -- A line of the program `fields`, and the whole text.
-use Rattle.text.specs.Prelude.{ℕ, code, List, [], ◌∷◌, ◌++◌, Res, ok, no, pick, place_of, placed, ◌=?◌, LF, padded}
+use Rattle.std.specs.Prelude.{◌∷◌, ◌++◌}
+use Rattle.text.specs.Prelude.{ℕ, code, List, [], Res, ok, no, pick, place_of, placed, ◌=?◌, LF, padded}
 use Rattle.text.specs.declared.refusal.Refusal.{Refusal}
 use Rattle.records.specs.Record.{record_table, record_book, accepted_as}
 use Rattle.records.specs.declared.Record.{Record}

@@ -1,5 +1,6 @@
 -- What one call of `read` or of `write` did.
-use Rattle.text.specs.Prelude.{ℕ, zero, suc, ◌+◌, ◌≤◌, ◌≡◌, Bool, false, List, length, ℤ, pos, negsuc, pick, ◌=?◌}
+use Rattle.std.specs.Prelude.{◌+◌, ◌≤◌, ◌≡◌}
+use Rattle.text.specs.Prelude.{ℕ, zero, suc, Bool, false, List, length, ℤ, pos, negsuc, pick, ◌=?◌}
 use Rattle.files.specs.declared.call.Did.{Did}
 use Rattle.files.specs.declared.call.Did.TheVariants.{Bytes, Nothing, Again, Closed, Failed}
 

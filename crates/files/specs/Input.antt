@@ -1,5 +1,6 @@
 -- Lent bytes that are filled by calls of `read`. Which bytes these bring no contract says.
-use Rattle.text.specs.Prelude.{ℕ, ◌+◌, ◌≤◌, ◌<◌, code, ◌≡◌, Bool, List, length, take, ◌=?◌, ◌∧?◌, byte}
+use Rattle.std.specs.Prelude.{◌+◌, ◌≤◌, ◌<◌, ◌≡◌}
+use Rattle.text.specs.Prelude.{ℕ, code, Bool, List, length, take, ◌=?◌, ◌∧?◌, byte}
 use Rattle.files.specs.Call.{NoMoreThan}
 use Rattle.files.specs.declared.{call.Did.Did, input.Filled.Filled, input.Came.Came}
 

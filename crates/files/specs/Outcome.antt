@@ -1,5 +1,6 @@
 -- How a run ended.
-use Rattle.text.specs.Prelude.{ℕ, ◌≡◌, Bool, true, false, List, map, pick}
+use Rattle.std.specs.Prelude.{◌≡◌}
+use Rattle.text.specs.Prelude.{ℕ, Bool, true, false, List, map, pick}
 use Rattle.files.specs.Terminal.{visible}
 use Rattle.files.specs.declared.{input.Filled.Filled, output.Written.Written, outcome.Outcome.Outcome}
 

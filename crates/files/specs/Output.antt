@@ -1,5 +1,6 @@
 -- A text that is written by calls of `write`.
-use Rattle.text.specs.Prelude.{ℕ, ◌≡◌, List, length}
+use Rattle.std.specs.Prelude.{◌≡◌}
+use Rattle.text.specs.Prelude.{ℕ, List, length}
 use Rattle.files.specs.declared.{output.Written.Written, output.Written.TheVariants.All}
 
 -- Nothing is always written.

@@ -1,5 +1,6 @@
 -- Finer positions: some recorders add digits to the minutes of a fix, by the extensions LAD and LOD.
-use Rattle.text.specs.Prelude.{ℕ, ◌+◌, ◌*◌, ◌^◌, ◌≤◌, ◌≡◌, code, Bool, true, false, List, length, ℤ, pos, Res, ok, no}
+use Rattle.std.specs.Prelude.{◌+◌, ◌*◌, ◌^◌, ◌≤◌, ◌≡◌}
+use Rattle.text.specs.Prelude.{ℕ, code, Bool, true, false, List, length, ℤ, pos, Res, ok, no}
 use Rattle.text.specs.Prelude.{moved, guard, pick, number_of, place_of, ◌≤?◌, ◌=?◌, ◌∨?◌}
 use Rattle.text.specs.Prelude.{all_digits_of, first_other_of, value_from}
 use Rattle.std.specs.Prelude.{neg_ℤ}

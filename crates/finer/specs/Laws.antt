@@ -1,5 +1,6 @@
 -- What holds of finer positions, over any number of digits.
-use Rattle.text.specs.Prelude.{ℕ, suc, ◌+◌, ◌*◌, ◌/◌, ◌^◌, ◌≤◌, ◌<◌, ◌≡◌, false, List, length, ℤ, pos, negsuc, Res, ok}
+use Rattle.std.specs.Prelude.{◌+◌, ◌*◌, ◌/◌, ◌^◌, ◌≤◌, ◌<◌, ◌≡◌}
+use Rattle.text.specs.Prelude.{ℕ, suc, false, List, length, ℤ, pos, negsuc, Res, ok}
 use Rattle.text.specs.Prelude.{no, byte, largest, is_digit_of}
 use Rattle.std.specs.Prelude.{neg_ℤ, nat_abs}
 use Rattle.text.specs.declared.refusal.Refusal.{Refusal}

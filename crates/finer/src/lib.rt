@@ -1,5 +1,7 @@
 // Finer positions: latitude and longitude of a fix with the digits that its recorder adds to the minutes, by the
 // extensions LAD and LOD.
+#![tactic(auto)]
+
 ghost use Rattle.std.specs.Prelude.{◌≡◌, ◌^◌, ◌≤◌, ◌<◌, length};
 ghost use Rattle.text.specs.Res.{◌∨?◌};
 ghost use Rattle.text.specs.Number.{is_digit_of};

@@ -1,5 +1,6 @@
 -- G lines: the recorder's signature, which others judge.
-use Rattle.text.specs.Prelude.{ℕ, code, List, [], ◌∷◌, ◌++◌, Res, ok, no, bind, guard, begins}
+use Rattle.std.specs.Prelude.{◌∷◌, ◌++◌}
+use Rattle.text.specs.Prelude.{ℕ, code, List, [], Res, ok, no, bind, guard, begins}
 use Rattle.text.specs.declared.refusal.Refusal.TheVariants.{Syntax}
 use Rattle.part.specs.Part.{rest_from, part_text, part_bytes}
 use Rattle.g_record.specs.declared.{GRecord.GRecord, GRead.GRead}

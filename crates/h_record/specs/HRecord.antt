@@ -1,5 +1,6 @@
 -- H lines: headers.
-use Rattle.text.specs.Prelude.{ℕ, suc, ◌+◌, ◌-◌, ◌/◌, ◌%◌, code, List, [], ◌∷◌, ◌++◌, length, drop, Res, ok, no, bind}
+use Rattle.std.specs.Prelude.{◌+◌, ◌-◌, ◌/◌, ◌%◌, ◌∷◌, ◌++◌}
+use Rattle.text.specs.Prelude.{ℕ, suc, code, List, [], length, drop, Res, ok, no, bind}
 use Rattle.text.specs.Prelude.{guard, pick, ◌≤?◌, ◌=?◌, byte, cut}
 use Rattle.part.specs.Part.{rest_from, part_text, maybe_text, part_bytes, maybe_bytes}
 use Rattle.text.specs.declared.refusal.Refusal.TheVariants.{Syntax}

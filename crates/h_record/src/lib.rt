@@ -1,4 +1,6 @@
 // H lines, as src/records/h_record.rs has them.
+#![tactic(auto)]
+
 ghost use Rattle.std.specs.Prelude.{◌≡◌, ◌+◌, ◌≤◌, length, drop};
 ghost use Rattle.part.specs.Part.{find_part, find_maybe, part_bytes, maybe_bytes, shown, Shows};
 ghost use Rattle.put.specs.Put.{Wrote};

@@ -1,5 +1,6 @@
 -- What the lines of one letter leave in force, and lookup by name.
-use Rattle.text.specs.Prelude.{ℕ, Bool, true, false, List, [], ◌∷◌, Res, ok, no, bind, guard, pick, ◌≤?◌, ◌=?◌}
+use Rattle.std.specs.Prelude.{◌∷◌}
+use Rattle.text.specs.Prelude.{ℕ, Bool, true, false, List, [], Res, ok, no, bind, guard, pick, ◌≤?◌, ◌=?◌}
 use Rattle.text.specs.Prelude.{◌∧?◌, begins}
 use Rattle.text.specs.declared.refusal.Refusal.TheVariants.{NoTable, SpoiledTable, NotDefined}
 use Rattle.part.specs.declared.Part.{Part}

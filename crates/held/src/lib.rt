@@ -1,4 +1,6 @@
 // What the lines of one letter leave in force, a table of definitions or none, and lookup by name in it.
+#![tactic(auto)]
+
 pub mod tables;
 
 ghost use Rattle.std.specs.Prelude.{◌≡◌, ◌≤◌};

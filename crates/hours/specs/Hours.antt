@@ -1,5 +1,6 @@
 -- An index: a place, or none, for each hour 0 to 24.
-use Rattle.text.specs.Prelude.{ℕ, zero, suc, ◌+◌, Bool, true, false, List, [], ◌∷◌, get_or, replicate, ◌≤?◌, ◌∧?◌}
+use Rattle.std.specs.Prelude.{◌+◌, ◌∷◌}
+use Rattle.text.specs.Prelude.{ℕ, zero, suc, Bool, true, false, List, [], get_or, replicate, ◌≤?◌, ◌∧?◌}
 use Rattle.std.proofs.Math.Option.{Option, none, some}
 use Rattle.hours.specs.declared.{First.First, Hour.Hour, Index.Index}
 

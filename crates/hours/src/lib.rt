@@ -1,4 +1,6 @@
 // For each hour of a log the place of a fix, or none: the index, by itself.
+#![tactic(auto)]
+
 ghost use Rattle.std.specs.Prelude.{◌≡◌};
 ghost use Rattle.hours.specs.Hours.{nowhere, held_for, lacks};
 

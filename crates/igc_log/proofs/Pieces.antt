@@ -38,7 +38,7 @@ module _ {A H T : Type 0} (R : Reader A H) (step : T → LineRead A H → T) whe
   made_lines : (c : Carried H T) (ks : List (List ℕ)) → (past_lines R step c ks).made ≡ over step c.made (lines c ks)
   unfolding past_lines past_line read_from over
   made_lines c [] = refl
-  made_lines c (k ∷ ks) = made_lines _ ks
+  made_lines c (k ∷ ks) = made_lines (past_line R step c (line_text k) (length k)) ks
 
   number_lines : (c : Carried H T) (ks : List (List ℕ)) → (past_lines R step c ks).number ≡ c.number + length ks
   unfolding past_lines past_line
@@ -52,9 +52,9 @@ module _ {A H T : Type 0} (R : Reader A H) (step : T → LineRead A H → T) whe
 
   append_lines : (c : Carried H T) (ks ls : List (List ℕ)) →
       past_lines R step c (ks ++ ls) ≡ past_lines R step (past_lines R step c ks) ls
-  unfolding past_lines
+  unfolding past_lines past_line
   append_lines c [] ls = refl
-  append_lines c (k ∷ ks) ls = append_lines _ ks ls
+  append_lines c (k ∷ ks) ls = append_lines (past_line R step c (line_text k) (length k)) ks ls
 
   read_lines : (c : Carried H T) (ks ls : List (List ℕ)) →
       lines c (ks ++ ls) ≡ lines c ks ++ lines (past_lines R step c ks) ls

@@ -86,7 +86,7 @@ module _ {A T : Type 0} (R : Reader A T) where
     others_leave c [] e = refl
     others_leave c (k ∷ ks) e =
         let n = neither e in
-        others_leave _ ks n.1 ∙ L.law c.place c.held (line_text k) ∙ sym (second _ n.0 refl)
+        others_leave (past_line R nothing_made c (line_text k) (length k)) ks n.1 ∙ L.law c.place c.held (line_text k) ∙ sym (second _ n.0 refl)
 
     leave_run : (pre run : List ℕ) → closed pre ≡ true → some R L (chunks run) ≡ false →
         L.view (carried_past (pre ++ run)).held ≡ L.view (carried_past pre).held

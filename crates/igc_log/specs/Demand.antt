@@ -1,5 +1,6 @@
 -- Demand 3, over any reader of lines and any letter's table.
-use Rattle.text.specs.Prelude.{ℕ, ◌+◌, ◌≡◌, Bool, true, false, not, List, [], ◌∷◌, ◌++◌, length, take, drop, pick}
+use Rattle.std.specs.Prelude.{◌+◌, ◌≡◌, ◌∷◌, ◌++◌}
+use Rattle.text.specs.Prelude.{ℕ, Bool, true, false, not, List, [], length, take, drop, pick}
 use Rattle.text.specs.Prelude.{◌∨?◌}
 use Rattle.igc_log.specs.Line.{line_text}
 use Rattle.igc_log.specs.Log.{chunks, closed, Reader, LineRead, readings, Letter}

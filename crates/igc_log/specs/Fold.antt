@@ -1,5 +1,6 @@
 -- A product of a log: one reading after the other.
-use Rattle.text.specs.Prelude.{ℕ, ◌+◌, List, [], ◌∷◌, ◌++◌, length}
+use Rattle.std.specs.Prelude.{◌+◌, ◌∷◌, ◌++◌}
+use Rattle.text.specs.Prelude.{ℕ, List, [], length}
 use Rattle.std.proofs.Math.Option.{Option, none, some}
 use Rattle.igc_log.specs.Line.{line_text}
 use Rattle.igc_log.specs.Log.{chunks, Reader, LineRead, read_from}

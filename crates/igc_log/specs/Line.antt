@@ -1,5 +1,6 @@
 -- Where a line of a log ends: at LF; one CR directly before that LF is dropped; bytes after the last LF are a line.
-use Rattle.text.specs.Prelude.{ℕ, suc, ◌+◌, ◌-◌, Bool, List, [], ◌∷◌, length, take, drop, pick, ◌≤?◌, ◌=?◌, ◌∧?◌, LF}
+use Rattle.std.specs.Prelude.{◌+◌, ◌-◌, ◌∷◌}
+use Rattle.text.specs.Prelude.{ℕ, suc, Bool, List, [], length, take, drop, pick, ◌≤?◌, ◌=?◌, ◌∧?◌, LF}
 use Rattle.text.specs.Prelude.{CR, byte}
 use Rattle.igc_log.specs.declared.Cut.{Cut}
 

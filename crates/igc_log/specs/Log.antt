@@ -1,5 +1,6 @@
 -- A log as lines, and what a fresh walk reads of it, over any reader of a line.
-use Rattle.text.specs.Prelude.{ℕ, ◌+◌, ◌≡◌, Bool, true, List, [], ◌∷◌, length, pick, ◌=?◌, LF}
+use Rattle.std.specs.Prelude.{◌+◌, ◌≡◌, ◌∷◌}
+use Rattle.text.specs.Prelude.{ℕ, Bool, true, List, [], length, pick, ◌=?◌, LF}
 use Rattle.igc_log.specs.Line.{line_text}
 
 -- A byte in front of the first line.

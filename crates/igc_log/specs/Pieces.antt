@@ -1,5 +1,6 @@
 -- A log in pieces, each of whole lines, is read as the whole log is. What goes from one to the next is `Carried`.
-use Rattle.text.specs.Prelude.{ℕ, ◌+◌, ◌≤◌, ◌≡◌, true, List, [], ◌∷◌, ◌++◌, length}
+use Rattle.std.specs.Prelude.{◌+◌, ◌≤◌, ◌≡◌, ◌∷◌, ◌++◌}
+use Rattle.text.specs.Prelude.{ℕ, true, List, [], length}
 use Rattle.igc_log.specs.Log.{chunks, closed, Reader, LineRead, readings}
 use Rattle.igc_log.specs.Fold.{over, texts, Carried, fresh, read_on, fed}
 

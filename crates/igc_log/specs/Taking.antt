@@ -1,5 +1,6 @@
 -- Lines of a piece taken into lent bytes, as long as each one's text has room.
-use Rattle.text.specs.Prelude.{ℕ, ◌+◌, ◌-◌, ◌≤◌, ◌<◌, ◌≡◌, true, List, [], ◌∷◌, ◌++◌, length, take, drop, pick, ◌≤?◌}
+use Rattle.std.specs.Prelude.{◌+◌, ◌-◌, ◌≤◌, ◌<◌, ◌≡◌, ◌∷◌, ◌++◌}
+use Rattle.text.specs.Prelude.{ℕ, true, List, [], length, take, drop, pick, ◌≤?◌}
 use Rattle.std.proofs.lemmas.List.Edits.{sets}
 use Rattle.igc_log.specs.Line.{line_text}
 use Rattle.igc_log.specs.Log.{chunks, closed, Reader, LineRead}

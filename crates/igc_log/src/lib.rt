@@ -1,4 +1,6 @@
 // The lines of a log: where they end, and each as a part of the log.
+#![tactic(auto)]
+
 ghost use Rattle.std.specs.Prelude.{◌≡◌, ◌+◌, ◌≤◌, ◌<◌, length, drop};
 ghost use Rattle.part.specs.Part.{find_part, shown, Shows};
 ghost use Rattle.igc_log.specs.Line.{up_to, has_lf_of, end_of, cut_at};

@@ -1,5 +1,6 @@
 -- K lines: data beside the fixes, in columns that the J line names.
-use Rattle.text.specs.Prelude.{code, Bool, List, ℕ, [], ◌∷◌, ◌++◌, length, Res, ok, no, bind, guard, ◌≤?◌, ◌=?◌}
+use Rattle.std.specs.Prelude.{◌∷◌, ◌++◌}
+use Rattle.text.specs.Prelude.{code, Bool, List, ℕ, [], length, Res, ok, no, bind, guard, ◌≤?◌, ◌=?◌}
 use Rattle.text.specs.Prelude.{byte, columns}
 use Rattle.part.specs.Part.{rest_from, part_text, part_bytes}
 use Rattle.text.specs.declared.refusal.Refusal.TheVariants.{Syntax}

@@ -1,4 +1,6 @@
 // K lines, as src/records/k_record.rs has them.
+#![tactic(auto)]
+
 ghost use Rattle.std.specs.Prelude.{◌≡◌};
 ghost use Rattle.part.specs.Part.{find_part, shown, Shows, found_res};
 ghost use Rattle.extension.specs.Value.{find_value};

@@ -1,5 +1,6 @@
 -- L lines: remarks, and who or what wrote them.
-use Rattle.text.specs.Prelude.{ℕ, code, List, [], ◌∷◌, ◌++◌, length, Res, ok, no, bind, guard, ◌≤?◌, ◌=?◌}
+use Rattle.std.specs.Prelude.{◌∷◌, ◌++◌}
+use Rattle.text.specs.Prelude.{ℕ, code, List, [], length, Res, ok, no, bind, guard, ◌≤?◌, ◌=?◌}
 use Rattle.text.specs.Prelude.{byte, cut}
 use Rattle.text.specs.declared.refusal.Refusal.TheVariants.{Syntax}
 use Rattle.part.specs.Part.{name_from, part_text, maybe_text, part_bytes, maybe_bytes}

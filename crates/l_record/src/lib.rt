@@ -1,4 +1,6 @@
 // L lines, as src/records/l_record.rs has them; the Rust keeps source and text in one string.
+#![tactic(auto)]
+
 ghost use Rattle.std.specs.Prelude.{◌≡◌};
 ghost use Rattle.part.specs.Part.{find_part, find_maybe, shown, Shows};
 ghost use Rattle.put.specs.Put.{Wrote};

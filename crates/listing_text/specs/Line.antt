@@ -1,5 +1,6 @@
 -- A line of the listing. Fields are parted by one space, every printed line is closed by LF.
-use Rattle.text.specs.Prelude.{ℕ, code, List, [], ◌∷◌, ◌++◌, Res, pick, ◌≤?◌, ◌∧?◌, LF, byte}
+use Rattle.std.specs.Prelude.{◌∷◌, ◌++◌}
+use Rattle.text.specs.Prelude.{ℕ, code, List, [], Res, pick, ◌≤?◌, ◌∧?◌, LF, byte}
 use Rattle.b_record.specs.BRecord.{pressure_text, gps_text}
 use Rattle.b_record.specs.declared.BRecord.{BRecord}
 use Rattle.records.specs.Record.{answer_fix, answered}

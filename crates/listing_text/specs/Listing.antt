@@ -1,5 +1,6 @@
 -- The listing of a log: a line for each reading of a fresh walk, and the trailer over them.
-use Rattle.text.specs.Prelude.{ℕ, ◌+◌, ◌*◌, ◌≤◌, List, ◌++◌, length, largest}
+use Rattle.std.specs.Prelude.{◌+◌, ◌*◌, ◌≤◌, ◌++◌}
+use Rattle.text.specs.Prelude.{ℕ, List, length, largest}
 use Rattle.igc_log.specs.Log.{readings}
 use Rattle.igc_log.specs.Fold.{over, texts}
 use Rattle.walk.specs.Readings.{Line-read, reader}

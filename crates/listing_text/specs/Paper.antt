@@ -1,5 +1,6 @@
 -- The text of the paper's program.
-use Rattle.text.specs.Prelude.{ℕ, ◌≤◌, code, List, [], ◌∷◌, length, pick, ◌≤?◌, LF}
+use Rattle.std.specs.Prelude.{◌≤◌, ◌∷◌}
+use Rattle.text.specs.Prelude.{ℕ, code, List, [], length, pick, ◌≤?◌, LF}
 use Rattle.listing_text.specs.Listing.{listing_text_of}
 
 -- `too long`, closed by LF.

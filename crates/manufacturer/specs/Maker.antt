@@ -1,5 +1,6 @@
 -- Makers of recorders: their codes, and the maker that a code is read as.
-use Rattle.text.specs.Prelude.{ℕ, ◌+◌, ◌*◌, code, String, char_at, Bool, false, List, [], ◌∷◌, pick, ◌=?◌, ◌∧?◌}
+use Rattle.std.specs.Prelude.{◌+◌, ◌*◌, ◌∷◌}
+use Rattle.text.specs.Prelude.{ℕ, code, String, char_at, Bool, false, List, [], pick, ◌=?◌, ◌∧?◌}
 use Rattle.field.specs.declared.Mnemonic.{Mnemonic}
 use Rattle.manufacturer.specs.declared.{Manufacturer.Manufacturer, MaybeLetter.MaybeLetter}
 use Rattle.manufacturer.specs.declared.{MaybeTriple.MaybeTriple}

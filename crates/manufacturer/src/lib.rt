@@ -1,6 +1,7 @@
 // Makers of recorders and their codes, as src/util/manufacturer.rs has them. The codes stand in one list, `listed`: the
 // readers search it from the top, in the order of the definition `known`, and the writers ask it at the maker's place.
 #![tactic(auto)]
+
 ghost use Rattle.std.specs.Prelude.{◌≡◌, ℕ, ◌<◌, get_or};
 ghost use Rattle.text.specs.Res.{pick, ◌=?◌};
 ghost use Rattle.manufacturer.specs.Maker.{letter_of_lem, triple_of, known, letter_maker, triple_maker, triple_number};

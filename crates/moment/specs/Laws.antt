@@ -1,5 +1,6 @@
 -- The log's own index answers as the plain walk does.
-use Rattle.text.specs.Prelude.{ℕ, ◌≤◌, ◌≡◌, List, length, Res, ok}
+use Rattle.std.specs.Prelude.{◌≤◌, ◌≡◌}
+use Rattle.text.specs.Prelude.{ℕ, List, length, Res, ok}
 use Rattle.time.specs.Time.{time_of}
 use Rattle.time.specs.declared.Time.{Time}
 use Rattle.moment_fix.specs.declared.Moment.{Moment}

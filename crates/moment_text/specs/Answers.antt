@@ -1,5 +1,6 @@
 -- The answers to times asked as HHMMSS, as text.
-use Rattle.text.specs.Prelude.{ℕ, zero, suc, ◌/◌, code, Bool, List, [], ◌∷◌, ◌++◌, length, take, drop, ◌=?◌, ◌∧?◌, LF}
+use Rattle.std.specs.Prelude.{◌/◌, ◌∷◌, ◌++◌}
+use Rattle.text.specs.Prelude.{ℕ, zero, suc, code, Bool, List, [], length, take, drop, ◌=?◌, ◌∧?◌, LF}
 use Rattle.text.specs.Prelude.{all_digits_of}
 use Rattle.time.specs.Time.{read_time_of}
 use Rattle.b_record.specs.BRecord.{pressure_text, gps_text}

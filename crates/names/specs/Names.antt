@@ -1,5 +1,6 @@
 -- The names asked for, three bytes each, one behind the other.
-use Rattle.text.specs.Prelude.{ℕ, ◌*◌, ◌≡◌, Bool, true, false, List, length}
+use Rattle.std.specs.Prelude.{◌*◌, ◌≡◌}
+use Rattle.text.specs.Prelude.{ℕ, Bool, true, false, List, length}
 use Rattle.std.proofs.lemmas.List.Edits.{sets}
 
 -- Three bytes stand where name i has its place, and nothing else changed.

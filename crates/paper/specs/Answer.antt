@@ -1,5 +1,6 @@
 -- What the paper's program writes.
-use Rattle.text.specs.Prelude.{ℕ, ◌≤◌, ◌≡◌, List, [], length, take}
+use Rattle.std.specs.Prelude.{◌≤◌, ◌≡◌}
+use Rattle.text.specs.Prelude.{ℕ, List, [], length, take}
 use Rattle.listing_text.specs.Paper.{paper_text}
 use Rattle.files.specs.declared.input.Filled.{Filled}
 use Rattle.files.specs.declared.input.Filled.TheVariants.{Ended, Full, Failed}

@@ -1,5 +1,6 @@
 -- Fields in plain decimal, each behind the one space that parts it from the field before.
-use Rattle.text.specs.Prelude.{ℕ, code, List, [], ◌∷◌, ◌++◌, padded}
+use Rattle.std.specs.Prelude.{◌∷◌, ◌++◌}
+use Rattle.text.specs.Prelude.{ℕ, code, List, [], padded}
 use Rattle.part.specs.declared.{Part.Part, MaybePart.MaybePart}
 use Rattle.field.specs.Field.{mnemonic_text}
 use Rattle.time.specs.declared.Time.{Time}

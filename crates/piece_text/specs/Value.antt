@@ -1,5 +1,6 @@
 -- Values of extensions on a B or a K line, looked up by name.
-use Rattle.text.specs.Prelude.{ℕ, code, List, [], ◌∷◌, ◌++◌, length, Res, ok, no, pick, number_of, ◌≤?◌, padded}
+use Rattle.std.specs.Prelude.{◌∷◌, ◌++◌}
+use Rattle.text.specs.Prelude.{ℕ, code, List, [], length, Res, ok, no, pick, number_of, ◌≤?◌, padded}
 use Rattle.part.specs.declared.Part.{Part}
 use Rattle.field.specs.Field.{mnemonic_text}
 use Rattle.field.specs.declared.Mnemonic.{Mnemonic}

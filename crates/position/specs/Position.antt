@@ -1,5 +1,6 @@
 -- A position: latitude first.
-use Rattle.text.specs.Prelude.{ℕ, Bool, List, ◌++◌, Res, ok, no, bind, ◌∧?◌, columns}
+use Rattle.std.specs.Prelude.{◌++◌}
+use Rattle.text.specs.Prelude.{ℕ, Bool, List, Res, ok, no, bind, ◌∧?◌, columns}
 use Rattle.field.specs.Field.{sized, field}
 use Rattle.coord.specs.Coord.{latitude_in, longitude_in, latitude_text, longitude_text, latitude_book, longitude_book}
 use Rattle.position.specs.declared.{RawPosition.RawPosition, PositionRead.PositionRead}

@@ -1,5 +1,6 @@
 -- The text of the program `positions`: a line for each accepted fix.
-use Rattle.text.specs.Prelude.{ℕ, code, List, [], ◌∷◌, ◌++◌, Res, placed, LF, padded, signed}
+use Rattle.std.specs.Prelude.{◌∷◌, ◌++◌}
+use Rattle.text.specs.Prelude.{ℕ, code, List, [], Res, placed, LF, padded, signed}
 use Rattle.text.specs.declared.refusal.MaybePlace.{MaybePlace}
 use Rattle.b_record.specs.declared.BRecord.{BRecord}
 use Rattle.records.specs.Record.{answer_fix}

@@ -1,5 +1,6 @@
 -- What a printer answers, and what it leaves in the lent bytes: one contract for all of them.
-use Rattle.text.specs.Prelude.{ℕ, ◌≡◌, List, ◌++◌, length, drop, Res, ok, no, bind, guard, pick, ◌≤?◌}
+use Rattle.std.specs.Prelude.{◌≡◌, ◌++◌}
+use Rattle.text.specs.Prelude.{ℕ, List, length, drop, Res, ok, no, bind, guard, pick, ◌≤?◌}
 use Rattle.text.specs.declared.refusal.Refusal.TheVariants.{NoRoom}
 use Rattle.print.specs.declared.printed.Printed.{Printed}
 use Rattle.print.specs.declared.printed.Printed.TheVariants.{Written, Refused}

@@ -1,5 +1,6 @@
 -- What is written of a piece of a log, and what is carried on.
-use Rattle.text.specs.Prelude.{ℕ, ◌+◌, ◌≡◌, Bool, true, false, List, length, ◌≤?◌, ◌∧?◌, largest}
+use Rattle.std.specs.Prelude.{◌+◌, ◌≡◌}
+use Rattle.text.specs.Prelude.{ℕ, Bool, true, false, List, length, ◌≤?◌, ◌∧?◌, largest}
 use Rattle.igc_log.specs.Fold as fold
 use Rattle.igc_log.specs.Taking.{Took}
 use Rattle.held.specs.Tables.{no_tables}

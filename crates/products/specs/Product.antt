@@ -1,5 +1,6 @@
 -- What the desk writes of a log: its listing, the fields of its lines, or the finer positions of its fixes.
-use Rattle.text.specs.Prelude.{ℕ, List, [], ◌++◌, Res}
+use Rattle.std.specs.Prelude.{◌++◌}
+use Rattle.text.specs.Prelude.{ℕ, List, [], Res}
 use Rattle.records.specs.declared.Record.{Record}
 use Rattle.igc_log.specs.Log.{readings}
 use Rattle.igc_log.specs.Fold.{over, texts}

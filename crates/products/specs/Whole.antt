@@ -1,5 +1,6 @@
 -- Whatever the pieces of a log were, what is written for them is the text of the whole log.
-use Rattle.text.specs.Prelude.{ℕ, ◌+◌, ◌≤◌, ◌≡◌, true, List, [], ◌∷◌, ◌++◌, take, largest}
+use Rattle.std.specs.Prelude.{◌+◌, ◌≤◌, ◌≡◌, ◌∷◌, ◌++◌}
+use Rattle.text.specs.Prelude.{ℕ, true, List, [], take, largest}
 use Rattle.igc_log.specs.Pieces.{joined, Whole}
 use Rattle.listing_text.specs.Listing.{listing_text_of}
 use Rattle.fields_text.specs.Line.{fields_text_of}

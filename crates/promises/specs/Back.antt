@@ -1,6 +1,7 @@
 -- A line read and printed comes back, exactly where it is not odd: said through the contracts, so of what the programs
 -- do.
-use Rattle.text.specs.Prelude.{ℕ, ◌≤◌, ◌<◌, ◌≡◌, true, false, List, ◌++◌, length, drop, Res, ok, no, byte}
+use Rattle.std.specs.Prelude.{◌≤◌, ◌<◌, ◌≡◌, ◌++◌}
+use Rattle.text.specs.Prelude.{ℕ, true, false, List, length, drop, Res, ok, no, byte}
 use Rattle.text.specs.declared.refusal.Refusal.TheVariants.{NoRoom}
 use Rattle.print.specs.Print.{printed_res, Prints}
 use Rattle.print.specs.declared.printed.Printed.{Printed}

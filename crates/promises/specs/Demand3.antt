@@ -2,7 +2,8 @@
 --
 -- What of a walk's state is compared: its place, its line number and its tables, which is what a `Line-read` has of it
 -- (`walk` Readings `read_by`). The report that it keeps is left out (K8): a replaced fix may have been the summit.
-use Rattle.text.specs.Prelude.{ℕ, ◌+◌, ◌≡◌, Bool, true, not, List, [], ◌∷◌, ◌++◌, length, take, drop, Res, ok, no}
+use Rattle.std.specs.Prelude.{◌+◌, ◌≡◌, ◌∷◌, ◌++◌}
+use Rattle.text.specs.Prelude.{ℕ, Bool, true, not, List, [], length, take, drop, Res, ok, no}
 use Rattle.text.specs.Prelude.{false, pick, ◌∨?◌}
 use Rattle.text.specs.declared.refusal.Refusal.TheVariants.{NoTable, SpoiledTable}
 use Rattle.part.specs.declared.Part.{Part}

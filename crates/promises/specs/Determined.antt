@@ -4,7 +4,8 @@
 -- leaves, as one value ≡ a definition; Took, of lines taken into lent bytes. In each way, any two permitted answers are
 -- equal, and so are the bytes that they leave. (Of the first there is nothing to prove.)
 use Rattle.std.specs.Borrow.{Bor}
-use Rattle.text.specs.Prelude.{ℕ, ◌≡◌, List, Res}
+use Rattle.std.specs.Prelude.{◌≡◌}
+use Rattle.text.specs.Prelude.{ℕ, List, Res}
 use Rattle.text.specs.Number.{u8_res, u16_res, i8_res, i16_res}
 use Rattle.part.specs.Part.{found_res, Shows}
 use Rattle.part.specs.declared.Part.{Part}

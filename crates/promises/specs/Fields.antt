@@ -1,5 +1,6 @@
 -- What the program `fields` shows as printed is what `print_record` prints.
-use Rattle.text.specs.Prelude.{ℕ, ◌≡◌, List, [], ◌∷◌, ◌++◌, Res, ok, no, LF}
+use Rattle.std.specs.Prelude.{◌≡◌, ◌∷◌, ◌++◌}
+use Rattle.text.specs.Prelude.{ℕ, List, [], Res, ok, no, LF}
 use Rattle.records.specs.Record.{read_line_of, record_table}
 use Rattle.records.specs.declared.Record.{Record}
 use Rattle.record_print.specs.Printed.{record_piece, reprinted}

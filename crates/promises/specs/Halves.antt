@@ -1,5 +1,6 @@
 -- Adding up halves: totals that are joined, and the sheets that carry them from desk to desk.
-use Rattle.text.specs.Prelude.{ℕ, ◌≡◌, List, ◌++◌, pick}
+use Rattle.std.specs.Prelude.{◌≡◌, ◌++◌}
+use Rattle.text.specs.Prelude.{ℕ, List, pick}
 use Rattle.report.specs.Figures.{Figures}
 use Rattle.report.specs.declared.{pressure.PressurePeak.PressurePeak, gps.GpsPeak.GpsPeak}
 use Rattle.total.specs.Total.{Totals, Logs, total_of, no_logs, total_fits, join_of, given, refused, join_res}

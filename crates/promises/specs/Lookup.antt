@@ -1,5 +1,6 @@
 -- The cases in which a lookup by name refuses, and the value that it gives in every other.
-use Rattle.text.specs.Prelude.{ℕ, ◌+◌, ◌-◌, ◌≤◌, ◌<◌, ◌≡◌, List, length, ok, no, number_of}
+use Rattle.std.specs.Prelude.{◌+◌, ◌-◌, ◌≤◌, ◌<◌, ◌≡◌}
+use Rattle.text.specs.Prelude.{ℕ, List, length, ok, no, number_of}
 use Rattle.text.specs.declared.refusal.Refusal.{Refusal}
 use Rattle.text.specs.declared.refusal.Refusal.TheVariants.{NoTable, SpoiledTable, NotDefined, OutsideLine}
 use Rattle.text.specs.declared.refusal.Refusal.TheVariants.{BadExtension, MissingExtension}

@@ -1,5 +1,6 @@
 -- Going to a moment: the answer by the log's own index, said over the readings of a fresh walk as one would check it.
-use Rattle.text.specs.Prelude.{ℕ, ◌≡◌, List, [], ◌∷◌, ok}
+use Rattle.std.specs.Prelude.{◌≡◌, ◌∷◌}
+use Rattle.text.specs.Prelude.{ℕ, List, [], ok}
 use Rattle.time.specs.Time.{time_of}
 use Rattle.time.specs.declared.Time.{Time}
 use Rattle.b_record.specs.declared.BRecord.{BRecord}

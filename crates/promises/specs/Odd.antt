@@ -1,6 +1,7 @@
 -- The lines that print otherwise than they were written: an A line in letter form; a number written with `+`; a height
 -- `-0000`; a count `-0`. All of them are seen in the line's bytes.
-use Rattle.text.specs.Prelude.{ℕ, zero, suc, ◌+◌, ◌-◌, ◌/◌, code, Bool, false, List, length, drop, pick, ◌=?◌, ◌∨?◌}
+use Rattle.std.specs.Prelude.{◌+◌, ◌-◌, ◌/◌}
+use Rattle.text.specs.Prelude.{ℕ, zero, suc, code, Bool, false, List, length, drop, pick, ◌=?◌, ◌∨?◌}
 use Rattle.text.specs.Prelude.{byte, cut, plus}
 use Rattle.text.specs.Number.{minus_zero}
 use Rattle.a_record.specs.ARecord.{letter_form}

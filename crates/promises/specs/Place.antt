@@ -1,5 +1,6 @@
 -- Where a refusal with 3 points: on the columns of the field that was refused, and so inside the line.
-use Rattle.text.specs.Prelude.{ℕ, ◌≤◌, ◌<◌, ◌≡◌, List, length, Res, no, columns, read_nat_of, read_int_of, largest}
+use Rattle.std.specs.Prelude.{◌≤◌, ◌<◌, ◌≡◌}
+use Rattle.text.specs.Prelude.{ℕ, List, length, Res, no, columns, read_nat_of, read_int_of, largest}
 use Rattle.text.specs.declared.refusal.Refusal.TheVariants.{UnreadableNumber}
 use Rattle.date.specs.Date.{read_date}
 use Rattle.time.specs.Time.{read_time_of}

@@ -1,6 +1,7 @@
 -- Printing settles at once (K14): the printed text of an accepted line is accepted, its reading has the line's field
 -- values and texts, and prints as that text again. All exceptions are seen in the line's bytes.
-use Rattle.text.specs.Prelude.{ℕ, ◌+◌, code, ◌≡◌, Bool, true, false, List, [], ◌∷◌, take, Res, ok, no, pick, ◌=?◌}
+use Rattle.std.specs.Prelude.{◌+◌, ◌≡◌, ◌∷◌}
+use Rattle.text.specs.Prelude.{ℕ, code, Bool, true, false, List, [], take, Res, ok, no, pick, ◌=?◌}
 use Rattle.text.specs.Prelude.{◌∧?◌, ◌∨?◌, byte, cut}
 use Rattle.text.specs.declared.refusal.Refusal.TheVariants.{Syntax}
 use Rattle.text.specs.Spelt.{spelt}

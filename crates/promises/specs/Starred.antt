@@ -1,5 +1,6 @@
 -- The starred readings of document 01, "Readings at the edges", one after the other as one list.
-use Rattle.text.specs.Prelude.{code, ◌≡◌, ok, no, bind, read_int_of, signed}
+use Rattle.std.specs.Prelude.{◌≡◌}
+use Rattle.text.specs.Prelude.{code, ok, no, bind, read_int_of, signed}
 use Rattle.part.specs.Part.{text_of}
 use Rattle.text.specs.declared.refusal.Refusal.TheVariants.{Syntax, UnreadableNumber, OutOfRange, BadExtension}
 use Rattle.part.specs.declared.MaybePart.{MaybePart}

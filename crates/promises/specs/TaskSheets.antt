@@ -1,5 +1,6 @@
 -- The task sheet: its captions in plain words, and the lines after the last point.
-use Rattle.text.specs.Prelude.{ℕ, zero, suc, ◌≡◌, true, List, [], ◌∷◌, ◌++◌, map, length, pick, ◌=?◌}
+use Rattle.std.specs.Prelude.{◌≡◌, ◌∷◌, ◌++◌}
+use Rattle.text.specs.Prelude.{ℕ, zero, suc, true, List, [], map, length, pick, ◌=?◌}
 use Rattle.part.specs.Part.{maybe_bytes}
 use Rattle.c_turnpoint_record.specs.declared.CRecordTurnpoint.{CRecordTurnpoint}
 use Rattle.igc_log.specs.Line.{line_text}

@@ -1,7 +1,8 @@
 -- A fresh walk reads every line of the log once, in order, before it is done, and its report is that of the lines read
 -- so far; and so does the desk's reader.
 use Rattle.std.specs.Borrow.{Bor}
-use Rattle.text.specs.Prelude.{ℕ, ◌+◌, ◌≤◌, ◌≡◌, true, false, List, ◌∷◌, length, take, drop, largest}
+use Rattle.std.specs.Prelude.{◌+◌, ◌≤◌, ◌≡◌, ◌∷◌}
+use Rattle.text.specs.Prelude.{ℕ, true, false, List, length, take, drop, largest}
 use Rattle.part.specs.Part.{bytes_of}
 use Rattle.records.specs.Record.{read_line_of}
 use Rattle.igc_log.specs.Line.{cut_at}

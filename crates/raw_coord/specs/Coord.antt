@@ -1,5 +1,6 @@
 -- A coordinate of either kind.
-use Rattle.text.specs.Prelude.{ℕ, ◌+◌, code, Bool, List, [], ◌∷◌, ◌++◌, Res, ok, no, bind, guard, pick, ◌≤?◌, ◌=?◌}
+use Rattle.std.specs.Prelude.{◌+◌, ◌∷◌, ◌++◌}
+use Rattle.text.specs.Prelude.{ℕ, code, Bool, List, [], Res, ok, no, bind, guard, pick, ◌≤?◌, ◌=?◌}
 use Rattle.text.specs.Prelude.{◌∧?◌, ◌∨?◌, byte, columns, read_nat_of, padded}
 use Rattle.text.specs.declared.refusal.Refusal.TheVariants.{Syntax, OutOfRange}
 use Rattle.raw_coord.specs.declared.{Compass.Compass, CompassRead.CompassRead, RawCoord.RawCoord}

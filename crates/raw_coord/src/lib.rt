@@ -1,5 +1,6 @@
 // A coordinate of either kind, as src/util/coord.rs has it.
 #![tactic(auto)]
+
 pub mod degrees;
 
 ghost use Rattle.std.specs.Prelude.{◌≡◌, ◌+◌};

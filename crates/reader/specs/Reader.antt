@@ -1,6 +1,7 @@
 -- A reader of a lent log, and what it shows at its place.
 use Rattle.std.specs.Borrow.{Bor}
-use Rattle.text.specs.Prelude.{ℕ, zero, suc, List, [], ◌∷◌}
+use Rattle.std.specs.Prelude.{◌∷◌}
+use Rattle.text.specs.Prelude.{ℕ, zero, suc, List, []}
 use Rattle.part.specs.Part.{bytes_of, find_part, shown}
 use Rattle.part.specs.declared.Part.{Part}
 use Rattle.igc_log.specs.Line.{cut_at}

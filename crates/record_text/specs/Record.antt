@@ -1,5 +1,6 @@
 -- The fields of a record, one form for each kind.
-use Rattle.text.specs.Prelude.{ℕ, code, List, [], ◌∷◌, ◌++◌, padded, signed}
+use Rattle.std.specs.Prelude.{◌∷◌, ◌++◌}
+use Rattle.text.specs.Prelude.{ℕ, code, List, [], padded, signed}
 use Rattle.field.specs.Field.{mnemonic_text}
 use Rattle.manufacturer.specs.Maker as maker
 use Rattle.table.specs.Table.{defs_of}

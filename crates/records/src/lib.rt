@@ -1,4 +1,6 @@
 // Lines of every kind, as src/records/mod.rs has them.
+#![tactic(auto)]
+
 ghost use Rattle.std.specs.Prelude.{◌≡◌};
 ghost use Rattle.text.specs.Res.{bind, ok};
 ghost use Rattle.table.specs.Table.{read_table};

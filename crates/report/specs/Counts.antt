@@ -1,5 +1,6 @@
 -- Counts by answer number.
-use Rattle.text.specs.Prelude.{ℕ, zero, suc, ◌+◌, Bool, false, List, [], ◌∷◌, ◌≤?◌, ◌∨?◌, largest}
+use Rattle.std.specs.Prelude.{◌+◌, ◌∷◌}
+use Rattle.text.specs.Prelude.{ℕ, zero, suc, Bool, false, List, [], ◌≤?◌, ◌∨?◌, largest}
 
 -- The answers to a line have the numbers 0 to 12; lines with another, built by hand, are in no count of these.
 abbrev pub numbers : ℕ

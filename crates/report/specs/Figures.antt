@@ -1,5 +1,6 @@
 -- The figures of a report. P and G, pressure heights and GPS heights with their places, are types apart.
-use Rattle.text.specs.Prelude.{ℕ, ◌+◌, Bool, List, ◌≤?◌}
+use Rattle.std.specs.Prelude.{◌+◌}
+use Rattle.text.specs.Prelude.{ℕ, Bool, List, ◌≤?◌}
 use Rattle.report.specs.Range.{Range, none, joined}
 use Rattle.report.specs.Counts.{by_number, added}
 

@@ -1,6 +1,7 @@
 -- What a report is: its highest and lowest are the first that reached them, its parts make the whole, and its step
 -- makes it, reading by reading.
-use Rattle.text.specs.Prelude.{ℕ, ◌≤◌, ◌≡◌, Bool, List, ◌++◌, length, Res, largest}
+use Rattle.std.specs.Prelude.{◌≤◌, ◌≡◌, ◌++◌}
+use Rattle.text.specs.Prelude.{ℕ, Bool, List, length, Res, largest}
 use Rattle.records.specs.Record.{read_line_of}
 use Rattle.records.specs.declared.Record.{Record}
 use Rattle.igc_log.specs.Log.{Reader, LineRead, readings}

@@ -1,5 +1,6 @@
 -- The highest and the lowest of some things that are seen one after the other.
-use Rattle.text.specs.Prelude.{◌≡◌, Bool, true, false, List, [], ◌∷◌, ◌++◌, pick}
+use Rattle.std.specs.Prelude.{◌≡◌, ◌∷◌, ◌++◌}
+use Rattle.text.specs.Prelude.{Bool, true, false, List, [], pick}
 
 -- Nothing was seen; or the highest and the lowest.
 pub data Range (P : Type 0) : Type 0 where

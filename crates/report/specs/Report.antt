@@ -1,5 +1,6 @@
 -- The report of a log: each figure by itself over the readings of a walk, and a reading at a time.
-use Rattle.text.specs.Prelude.{ℕ, ◌+◌, Bool, List, [], ◌∷◌, ◌++◌, length, get_or, Res, pick, ◌≤?◌, ◌=?◌, ◌∧?◌, ◌∨?◌}
+use Rattle.std.specs.Prelude.{◌+◌, ◌∷◌, ◌++◌}
+use Rattle.text.specs.Prelude.{ℕ, Bool, List, [], length, get_or, Res, pick, ◌≤?◌, ◌=?◌, ◌∧?◌, ◌∨?◌}
 use Rattle.text.specs.Prelude.{largest}
 use Rattle.std.specs.Int.Signed.{lt_z}
 use Rattle.time.specs.Time.{seconds_of_lem}

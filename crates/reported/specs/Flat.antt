@@ -1,5 +1,6 @@
 -- The figures of a report as plain numbers, which a loop carries, and one line more in them, by its glance.
-use Rattle.text.specs.Prelude.{ℕ, zero, suc, ◌+◌, Bool, true, List, get_or, set, pick, ◌≤?◌, ◌∧?◌, ◌∨?◌}
+use Rattle.std.specs.Prelude.{◌+◌}
+use Rattle.text.specs.Prelude.{ℕ, zero, suc, Bool, true, List, get_or, set, pick, ◌≤?◌, ◌∧?◌, ◌∨?◌}
 use Rattle.text.specs.Prelude.{largest}
 use Rattle.b_record.specs.declared.{PressureAlt.PressureAlt, GpsAlt.GpsAlt}
 use Rattle.report.specs.Range.{Range, none, between, joined}

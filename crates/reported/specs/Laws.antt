@@ -1,5 +1,6 @@
 -- A log in pieces of whole lines comes to the report of the whole log.
-use Rattle.text.specs.Prelude.{ℕ, ◌+◌, ◌≤◌, ◌≡◌, true, List, ◌++◌, length, largest}
+use Rattle.std.specs.Prelude.{◌+◌, ◌≤◌, ◌≡◌, ◌++◌}
+use Rattle.text.specs.Prelude.{ℕ, true, List, length, largest}
 use Rattle.igc_log.specs.Log.{closed, readings}
 use Rattle.walk.specs.Readings.{reader}
 use Rattle.report.specs.Report.{report_of}

@@ -1,5 +1,6 @@
 -- A log, or a piece of one, taken into a report.
-use Rattle.text.specs.Prelude.{ℕ, ◌+◌, List, length, pick, ◌≤?◌, largest}
+use Rattle.std.specs.Prelude.{◌+◌}
+use Rattle.text.specs.Prelude.{ℕ, List, length, pick, ◌≤?◌, largest}
 use Rattle.igc_log.specs.Log.{chunks, read_from}
 use Rattle.igc_log.specs.Fold.{over}
 use Rattle.held.specs.Tables.{no_tables}

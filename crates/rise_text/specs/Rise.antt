@@ -1,5 +1,6 @@
 -- What a line of a log raises of the running summits, and the text of it.
-use Rattle.text.specs.Prelude.{ℕ, Bool, List, [], ◌∷◌, ◌++◌, pick, LF, padded}
+use Rattle.std.specs.Prelude.{◌∷◌, ◌++◌}
+use Rattle.text.specs.Prelude.{ℕ, Bool, List, [], pick, LF, padded}
 use Rattle.std.proofs.Math.Option.{Option, some}
 use Rattle.text.specs.Spelt.{spelt}
 use Rattle.b_record.specs.BRecord.{pressure_text, gps_text}

@@ -1,5 +1,6 @@
 -- A set of numbers, given by a test, and as the bits of a word.
-use Rattle.text.specs.Prelude.{ℕ, zero, suc, ◌+◌, ◌*◌, ◌/◌, ◌%◌, ◌^◌, Bool, true, false, ◌=?◌}
+use Rattle.std.specs.Prelude.{◌+◌, ◌*◌, ◌/◌, ◌%◌, ◌^◌}
+use Rattle.text.specs.Prelude.{ℕ, zero, suc, Bool, true, false, ◌=?◌}
 
 -- 1 for a test that holds, 0 for one that does not.
 abbrev pub bit : Bool → ℕ

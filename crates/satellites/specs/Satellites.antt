@@ -1,5 +1,6 @@
 -- The satellites that an F line lists, and how many of them are different.
-use Rattle.text.specs.Prelude.{ℕ, ◌+◌, ◌-◌, ◌%◌, ◌≡◌, Bool, false, List, [], ◌∷◌, length, Res, ok, no, bind, guard}
+use Rattle.std.specs.Prelude.{◌+◌, ◌-◌, ◌%◌, ◌≡◌, ◌∷◌}
+use Rattle.text.specs.Prelude.{ℕ, Bool, false, List, [], length, Res, ok, no, bind, guard}
 use Rattle.text.specs.Prelude.{pick, ◌≤?◌, ◌=?◌, ◌∨?◌, all_digits_of, first_other_of, value_from}
 use Rattle.text.specs.declared.refusal.Refusal.TheVariants.{Syntax, UnreadableNumber}
 use Rattle.satellites.specs.Bits.{has_bit, word, how_many}

@@ -1,6 +1,7 @@
 // The satellites that an F line lists, as src/records/f_record.rs has them: numbers 00 to 99, here kept as a set of
 // bits in two words.
 #![tactic(auto)]
+
 ghost use Rattle.std.specs.Prelude.{◌≡◌};
 ghost use Rattle.satellites.specs.Satellites.{has_number, with_number, Counts, read_satellites, satellites_res};
 

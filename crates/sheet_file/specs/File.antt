@@ -1,5 +1,6 @@
 -- What is read of a sheet that goes through a window.
-use Rattle.text.specs.Prelude.{ℕ, ◌+◌, ◌-◌, min, ◌≡◌, Bool, true, false, List, length, take, drop, pick, ◌=?◌, largest}
+use Rattle.std.specs.Prelude.{◌+◌, ◌-◌, ◌≡◌}
+use Rattle.text.specs.Prelude.{ℕ, min, Bool, true, false, List, length, take, drop, pick, ◌=?◌, largest}
 use Rattle.std.proofs.lemmas.List.Edits.{sets}
 use Rattle.window.specs.Piece.{piece_end_of}
 use Rattle.files.specs.declared.input.Filled.{Filled}

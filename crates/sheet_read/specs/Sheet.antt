@@ -1,5 +1,6 @@
 -- The total of a sheet: its last block.
-use Rattle.text.specs.Prelude.{ℕ, ◌+◌, ◌-◌, Bool, true, List, [], ◌∷◌, length, take, pick, ◌=?◌, ◌∧?◌, LF}
+use Rattle.std.specs.Prelude.{◌+◌, ◌-◌, ◌∷◌}
+use Rattle.text.specs.Prelude.{ℕ, Bool, true, List, [], length, take, pick, ◌=?◌, ◌∧?◌, LF}
 use Rattle.text.specs.Spelt.{spelt}
 use Rattle.total.specs.Total.{Totals, no_logs, total_in}
 use Rattle.block_read.specs.Read.{Read, got, wrong, next, starts_with}

@@ -1,5 +1,6 @@
 -- The sheet of a season: a block of lines for each log, and one for all of them. Numbers are in plain decimal.
-use Rattle.text.specs.Prelude.{ℕ, ◌+◌, List, [], ◌∷◌, ◌++◌, pick, ◌=?◌, LF, padded}
+use Rattle.std.specs.Prelude.{◌+◌, ◌∷◌, ◌++◌}
+use Rattle.text.specs.Prelude.{ℕ, List, [], pick, ◌=?◌, LF, padded}
 use Rattle.b_record.specs.BRecord.{pressure_text, gps_text}
 use Rattle.report.specs.Range.{Range, none, between}
 use Rattle.report.specs.Figures.{Figures}

@@ -1,5 +1,6 @@
 -- The heights of one datum over some logs: each with its log, shifted by logs before it, and whether that fits.
-use Rattle.text.specs.Prelude.{ℕ, ◌+◌, Bool, true, List, [], ◌∷◌, pick, ◌≤?◌, ◌∧?◌, largest}
+use Rattle.std.specs.Prelude.{◌+◌, ◌∷◌}
+use Rattle.text.specs.Prelude.{ℕ, Bool, true, List, [], pick, ◌≤?◌, ◌∧?◌, largest}
 use Rattle.std.specs.Int.Signed.{lt_z}
 use Rattle.report.specs.Range.{Range, none, between}
 use Rattle.report.specs.declared.{pressure.PressurePeak.PressurePeak, gps.GpsPeak.GpsPeak}

@@ -1,5 +1,6 @@
 -- The body of I and J lines: a table of up to 99 definitions.
-use Rattle.text.specs.Prelude.{ℕ, zero, suc, ◌+◌, ◌-◌, ◌*◌, code, Bool, List, [], ◌∷◌, ◌++◌, length, take, replicate}
+use Rattle.std.specs.Prelude.{◌+◌, ◌-◌, ◌*◌, ◌∷◌, ◌++◌}
+use Rattle.text.specs.Prelude.{ℕ, zero, suc, code, Bool, List, [], length, take, replicate}
 use Rattle.text.specs.Prelude.{Res, ok, no, bind, guard, ◌≤?◌, ◌=?◌, ◌∨?◌, byte, columns, read_nat_of, padded}
 use Rattle.text.specs.declared.refusal.Refusal.TheVariants.{Syntax, BadExtension}
 use Rattle.field.specs.Field.{ascii}

@@ -1,5 +1,7 @@
 // The table of one I or J line, as the second half of src/records/extension.rs has it, with up to 99 definitions by
 // value.
+#![tactic(auto)]
+
 ghost use Rattle.std.specs.Prelude.{◌≡◌, [], ◌+◌, ◌*◌, ◌≤◌, min, length};
 ghost use Rattle.text.specs.Res.{no};
 ghost use Rattle.text.specs.Line.{columns};

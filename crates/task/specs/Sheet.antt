@@ -1,5 +1,6 @@
 -- A task's sheet, what a printer of it answers, and what that leaves in the lent bytes.
-use Rattle.text.specs.Prelude.{ℕ, zero, suc, ◌+◌, ◌≡◌, Bool, true, false, List, [], ◌∷◌, ◌++◌, length, drop, pick}
+use Rattle.std.specs.Prelude.{◌+◌, ◌≡◌, ◌∷◌, ◌++◌}
+use Rattle.text.specs.Prelude.{ℕ, zero, suc, Bool, true, false, List, [], length, drop, pick}
 use Rattle.text.specs.Prelude.{ℤ, pos, negsuc, ◌≤?◌}
 use Rattle.task_line.specs.Lines.{TaskLine, declaration, point, other, task_lines}
 use Rattle.task_text.specs.Points.{points_text}

@@ -1,5 +1,6 @@
 -- What the lines of a log are to a task.
-use Rattle.text.specs.Prelude.{ℕ, ◌≤◌, ◌<◌, ◌≡◌, List, ◌∷◌, map, length, drop, ℤ, Res, ok, no}
+use Rattle.std.specs.Prelude.{◌≤◌, ◌<◌, ◌≡◌, ◌∷◌}
+use Rattle.text.specs.Prelude.{ℕ, List, map, length, drop, ℤ, Res, ok, no}
 use Rattle.part.specs.Part.{part_bytes}
 use Rattle.c_turnpoint_record.specs.declared.CRecordTurnpoint.{CRecordTurnpoint}
 use Rattle.records.specs.Record.{read_line_of}

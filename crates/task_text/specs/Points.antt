@@ -1,5 +1,6 @@
 -- The points of a task as text.
-use Rattle.text.specs.Prelude.{ℕ, zero, suc, ◌+◌, code, List, [], ◌∷◌, ◌++◌, LF}
+use Rattle.std.specs.Prelude.{◌+◌, ◌∷◌, ◌++◌}
+use Rattle.text.specs.Prelude.{ℕ, zero, suc, code, List, [], LF}
 use Rattle.position.specs.Position.{position_text}
 use Rattle.caption.specs.Caption.{caption_text}
 use Rattle.task_line.specs.Lines.{TaskLine, declaration, point, other}

@@ -1,5 +1,6 @@
 -- What the program makes of the bytes that it read.
-use Rattle.text.specs.Prelude.{ℕ, ◌≡◌, List, [], ◌∷◌, ◌++◌, take, LF, padded}
+use Rattle.std.specs.Prelude.{◌≡◌, ◌∷◌, ◌++◌}
+use Rattle.text.specs.Prelude.{ℕ, List, [], take, LF, padded}
 use Rattle.std.proofs.Math.Option.{Option, none, some}
 use Rattle.text.specs.Spelt.{spelt}
 use Rattle.files.specs.declared.input.Filled.{Filled}

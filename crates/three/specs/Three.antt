@@ -1,5 +1,6 @@
 -- What times and dates share: three numbers of two characters each.
-use Rattle.text.specs.Prelude.{ℕ, List, ◌++◌, Res, ok, no, bind, columns, read_nat_of, padded}
+use Rattle.std.specs.Prelude.{◌++◌}
+use Rattle.text.specs.Prelude.{ℕ, List, Res, ok, no, bind, columns, read_nat_of, padded}
 use Rattle.three.specs.declared.{Three.Three, ThreeRead.ThreeRead}
 
 -- Three numbers one after the other, all read before anything is made of them.

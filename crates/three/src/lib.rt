@@ -1,5 +1,6 @@
 // What the times and dates of src/util/datetime.rs share: three numbers of two characters.
 #![tactic(auto)]
+
 ghost use Rattle.std.specs.Prelude.{◌≡◌};
 ghost use Rattle.field.specs.Field.{sized};
 ghost use Rattle.put.specs.Put.{Wrote};

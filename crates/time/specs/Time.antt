@@ -1,5 +1,6 @@
 -- Times: HHMMSS.
-use Rattle.text.specs.Prelude.{ℕ, ◌+◌, ◌*◌, Bool, List, Res, ok, no, guard, ◌≤?◌, ◌∧?◌}
+use Rattle.std.specs.Prelude.{◌+◌, ◌*◌}
+use Rattle.text.specs.Prelude.{ℕ, Bool, List, Res, ok, no, guard, ◌≤?◌, ◌∧?◌}
 use Rattle.text.specs.declared.refusal.Refusal.TheVariants.{OutOfRange}
 use Rattle.field.specs.Field.{sized, field}
 use Rattle.three.specs.Three.{read_three_of, three_text}

@@ -1,5 +1,6 @@
 -- What is said of joined totals: when one fits, and three of them joined from either side.
-use Rattle.text.specs.Prelude.{ℕ, ◌-◌, ◌≡◌, true, length, pos, largest}
+use Rattle.std.specs.Prelude.{◌-◌, ◌≡◌}
+use Rattle.text.specs.Prelude.{ℕ, true, length, pos, largest}
 use Rattle.report.specs.Range.{Range, none, between}
 use Rattle.report.specs.Counts.{numbers, by_number}
 use Rattle.span.specs.Span.{all_fit}

@@ -1,6 +1,7 @@
 -- What a total is: its highest and lowest are the first that reached them over all logs, their log numbers are those of
 -- its logs, and logs added one after the other make it.
-use Rattle.text.specs.Prelude.{ℕ, ◌≤◌, ◌≡◌, List, [], ◌∷◌, ◌++◌, Res}
+use Rattle.std.specs.Prelude.{◌≤◌, ◌≡◌, ◌∷◌, ◌++◌}
+use Rattle.text.specs.Prelude.{ℕ, List, [], Res}
 use Rattle.records.specs.declared.Record.{Record}
 use Rattle.igc_log.specs.Log.{LineRead}
 use Rattle.report.specs.Range.{Range, none, between, IsRange}

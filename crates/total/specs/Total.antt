@@ -1,5 +1,6 @@
 -- The total of some logs: each figure by itself over the readings of all of them in order, and a log at a time.
-use Rattle.text.specs.Prelude.{ℕ, ◌+◌, Bool, List, [], ◌∷◌, ◌++◌, map, length, Res, pick, ◌∧?◌}
+use Rattle.std.specs.Prelude.{◌+◌, ◌∷◌, ◌++◌}
+use Rattle.text.specs.Prelude.{ℕ, Bool, List, [], map, length, Res, pick, ◌∧?◌}
 use Rattle.records.specs.declared.Record.{Record}
 use Rattle.igc_log.specs.Log.{LineRead}
 use Rattle.report.specs.Range.{range_of}

@@ -1,5 +1,6 @@
 -- The trailer: T, lines, lines answered 1 to 5, byte offset of the I line in force at the end, or `-`.
-use Rattle.text.specs.Prelude.{ℕ, ◌+◌, code, Bool, List, [], ◌∷◌, ◌++◌, Res, pick, ◌≤?◌, ◌=?◌, ◌∧?◌, LF, begins}
+use Rattle.std.specs.Prelude.{◌+◌, ◌∷◌, ◌++◌}
+use Rattle.text.specs.Prelude.{ℕ, code, Bool, List, [], Res, pick, ◌≤?◌, ◌=?◌, ◌∧?◌, LF, begins}
 use Rattle.text.specs.Prelude.{largest}
 use Rattle.records.specs.Record.{answered}
 use Rattle.records.specs.declared.Record.{Record}

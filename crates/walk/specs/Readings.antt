@@ -1,5 +1,6 @@
 -- What the steps of a walk read, as readings of its lines, and this reader among readers of lines.
-use Rattle.text.specs.Prelude.{ℕ, zero, suc, code, ◌≡◌, List, [], ◌∷◌, length, Res, pick, begins}
+use Rattle.std.specs.Prelude.{◌≡◌, ◌∷◌}
+use Rattle.text.specs.Prelude.{ℕ, zero, suc, code, List, [], length, Res, pick, begins}
 use Rattle.std.specs.Prelude.{refl}
 use Rattle.part.specs.Part.{bytes_of}
 use Rattle.table.specs.Table.{read_table}

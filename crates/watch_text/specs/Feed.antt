@@ -1,5 +1,6 @@
 -- What is written of a piece of a log that is watched, and what is carried on.
-use Rattle.text.specs.Prelude.{ℕ, ◌+◌, ◌≡◌, Bool, true, false, List, length, ◌≤?◌, ◌∧?◌, largest}
+use Rattle.std.specs.Prelude.{◌+◌, ◌≡◌}
+use Rattle.text.specs.Prelude.{ℕ, Bool, true, false, List, length, ◌≤?◌, ◌∧?◌, largest}
 use Rattle.igc_log.specs.Fold as fold
 use Rattle.igc_log.specs.Taking.{Took}
 use Rattle.report.specs.Report.{figures_in}

@@ -1,6 +1,7 @@
 -- Whatever the pieces of a log were, what is written for them is the text of the whole log; and what its lines raise is
 -- said by the reports of the lines before them.
-use Rattle.text.specs.Prelude.{ℕ, ◌+◌, ◌≤◌, ◌≡◌, true, List, [], ◌∷◌, ◌++◌, length, take, drop, largest}
+use Rattle.std.specs.Prelude.{◌+◌, ◌≤◌, ◌≡◌, ◌∷◌, ◌++◌}
+use Rattle.text.specs.Prelude.{ℕ, true, List, [], length, take, drop, largest}
 use Rattle.igc_log.specs.Log.{readings}
 use Rattle.igc_log.specs.Pieces.{joined, Whole}
 use Rattle.report.specs.Report.{report_of}

@@ -1,5 +1,6 @@
 -- A log watched: a line wherever the running summit of a datum rises.
-use Rattle.text.specs.Prelude.{ℕ, List, ◌++◌, Res}
+use Rattle.std.specs.Prelude.{◌++◌}
+use Rattle.text.specs.Prelude.{ℕ, List, Res}
 use Rattle.records.specs.Record.{read_line_of}
 use Rattle.records.specs.declared.Record.{Record}
 use Rattle.igc_log.specs.Log.{Reader, LineRead, readings}

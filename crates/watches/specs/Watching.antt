@@ -1,5 +1,6 @@
 -- What was written of a log that is watched while its bytes come, and what is carried on.
-use Rattle.text.specs.Prelude.{ℕ, ◌+◌, ◌-◌, ◌≤◌, ◌<◌, ◌≡◌, Bool, true, false, List, length, take, drop}
+use Rattle.std.specs.Prelude.{◌+◌, ◌-◌, ◌≤◌, ◌<◌, ◌≡◌}
+use Rattle.text.specs.Prelude.{ℕ, Bool, true, false, List, length, take, drop}
 use Rattle.std.proofs.lemmas.List.Edits.{sets}
 use Rattle.igc_log.specs.Log.{closed}
 use Rattle.igc_log.specs.Fold.{Carried, fed}

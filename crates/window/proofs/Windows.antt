@@ -20,7 +20,8 @@ all_whole : (rest : List ℕ) (reads : List (List ℕ)) → Whole (pieces rest r
 unfolding pieces piece_end_of
 all_whole rest [] = tt
 all_whole rest (r ∷ []) = tt
-all_whole rest (r ∷ q ∷ rs) = in_front _ _ (q ∷ rs) (whole_closed (rest ++ r)) (all_whole _ (q ∷ rs))
+all_whole rest (r ∷ q ∷ rs) = in_front _ _ (q ∷ rs) (whole_closed (rest ++ r))
+    (all_whole (drop (piece_end_of false (rest ++ r)) (rest ++ r)) (q ∷ rs))
 
 -- together they are the rest and the reads
 none_lost : (rest : List ℕ) (reads : List (List ℕ)) → joined (pieces rest reads) ≡ rest ++ joined reads

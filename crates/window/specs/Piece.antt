@@ -1,5 +1,6 @@
 -- How much of a piece of a log can be read, and the pieces of which a log goes through a window.
-use Rattle.text.specs.Prelude.{ℕ, zero, suc, ◌≡◌, Bool, true, false, List, [], ◌∷◌, ◌++◌, length, take, drop, pick}
+use Rattle.std.specs.Prelude.{◌≡◌, ◌∷◌, ◌++◌}
+use Rattle.text.specs.Prelude.{ℕ, zero, suc, Bool, true, false, List, [], length, take, drop, pick}
 use Rattle.text.specs.Prelude.{◌=?◌, LF}
 use Rattle.igc_log.specs.Pieces.{joined, Whole}
 

@@ -1,4 +1,6 @@
 // A window on a log that is read in pieces: how much of it is whole lines, and what of it waits for the next read.
+#![tactic(auto)]
+
 ghost use Rattle.std.specs.Prelude.{◌≡◌, ◌-◌, length, drop};
 ghost use Rattle.std.proofs.lemmas.List.Edits.{sets};
 ghost use Rattle.window.specs.Piece.{whole_length_of, piece_end_of};

@@ -7,11 +7,11 @@ use Rattle.a_record.specs.ARecord.{triple_text}
 use Rattle.a_record.proofs.put_triple.Statement.{statement}
 use Rattle.a_record.proofs.put_triple.Tie as tie
 
-three : (c : tie.After-triple) → triple_of c.before.before.before.before.args.m ≡ Triple c.triple.given.0.0
-three c = sym c.before.before.to-triple-char.ensures ∙ c.triple.given.1
+three : (c : tie.In-Triple) → triple_of c.before.before.before.args.m ≡ Triple c.in-Triple.triple
+three c = sym c.before.to_triple_char.ensures ∙ c.in-Triple.is
 
-none : (c : tie.After-enum-told) → triple_of c.before.before.before.before.args.m ≡ Missing
-none c = sym c.before.before.to-triple-char.ensures ∙ c.enum_told.given.1
+none : (c : tie.In-Missing) → triple_of c.before.before.before.args.m ≡ Missing
+none c = sym c.before.to_triple_char.ensures ∙ c.in-Missing.is
 
 pub put_triple_spec : {M : Type 1} → statement M
 unfolding triple_text

@@ -7,21 +7,21 @@ use Rattle.b_quick.proofs.plain.Tie as tie
 abbrev line : tie.Start → List ℕ
 line b = b.args.line.now
 
-block1 : (c : tie.Else1) → all_digits_of (cut 1 9 (line (search rules))) ≡ true
+block1 : (c : tie.Else-not-all_digits) → all_digits_of (cut 1 9 (line (search rules))) ≡ true
 unfolding cut
-block1 c = so_true c.before.all_digits.ensures c.if1.false
+block1 c = so_true c.before.all_digits.ensures c.if-not-all_digits.false
 
-block2 : (c : tie.Else2) → all_digits_of (cut 6 14 (line (search rules))) ≡ true
+block2 : (c : tie.Else-not-all_digits-2) → all_digits_of (cut 6 14 (line (search rules))) ≡ true
 unfolding cut
-block2 c = so_true c.before.all-digits2.ensures c.if2.false
+block2 c = so_true c.before.all_digits-2.ensures c.if-not-all_digits-2.false
 
-block3 : (c : tie.Else3) → all_digits_of (cut 15 23 (line (search rules))) ≡ true
+block3 : (c : tie.Else-not-all_digits-3) → all_digits_of (cut 15 23 (line (search rules))) ≡ true
 unfolding cut
-block3 c = so_true c.before.all-digits3.ensures c.if3.false
+block3 c = so_true c.before.all_digits-3.ensures c.if-not-all_digits-3.false
 
-block4 : (c : tie.Else4) → all_digits_of (cut 25 33 (line (search rules))) ≡ true
+block4 : (c : tie.Else-not-all_digits-4) → all_digits_of (cut 25 33 (line (search rules))) ≡ true
 unfolding cut
-block4 c = so_true c.before.all-digits4.ensures c.if4.false
+block4 c = so_true c.before.all_digits-4.ensures c.if-not-all_digits-4.false
 
 pub plain_spec : {M : Type 1} → statement M
 unfolding plain_digits cut
@@ -29,17 +29,17 @@ plain_spec =
     tie.close
     (tie.spec
     (search rules) (search rules) (search rules) (search rules)
-    (λ c. sym (fails _ (so_false c.before.all_digits.ensures c.if1.true)))
+    (λ c. sym (fails _ (so_false c.before.all_digits.ensures c.if-not-all_digits.true)))
     (search rules) (search rules) (search rules) (search rules)
-    (λ c. sym (holds (block1 (search rules)) (fails _ (so_false c.before.all-digits2.ensures c.if2.true))))
-    (search rules) (search rules) (search rules) (search rules)
-    (λ c. sym (holds (block1 (search rules))
-    (holds (block2 (search rules)) (fails _ (so_false c.before.all-digits3.ensures c.if3.true)))))
+    (λ c. sym (holds (block1 (search rules)) (fails _ (so_false c.before.all_digits-2.ensures c.if-not-all_digits-2.true))))
     (search rules) (search rules) (search rules) (search rules)
     (λ c. sym (holds (block1 (search rules))
-    (holds (block2 (search rules))
-    (holds (block3 (search rules)) (fails _ (so_false c.before.all-digits4.ensures c.if4.true))))))
+    (holds (block2 (search rules)) (fails _ (so_false c.before.all_digits-3.ensures c.if-not-all_digits-3.true)))))
     (search rules) (search rules) (search rules) (search rules)
     (λ c. sym (holds (block1 (search rules))
     (holds (block2 (search rules))
-    (holds (block3 (search rules)) (holds (block4 (search rules)) (sym c.all-digits5.ensures)))))))
+    (holds (block3 (search rules)) (fails _ (so_false c.before.all_digits-4.ensures c.if-not-all_digits-4.true))))))
+    (search rules) (search rules) (search rules) (search rules)
+    (λ c. sym (holds (block1 (search rules))
+    (holds (block2 (search rules))
+    (holds (block3 (search rules)) (holds (block4 (search rules)) (sym c.all_digits-5.ensures)))))))

@@ -9,20 +9,20 @@ use Rattle.b_quick.proofs.quick_fix.Tie as tie
 abbrev line : tie.Start → List ℕ
 line b = b.args.line.now
 
-not_ascii : (c : tie.Then2) → is_ascii_of (line (search rules)) ≡ false
-not_ascii c = so_false c.before.is_ascii.ensures c.if2.true
+not_ascii : (c : tie.Then-not-is_ascii) → is_ascii_of (line (search rules)) ≡ false
+not_ascii c = so_false c.before.is_ascii.ensures c.if-not-is_ascii.true
 
 -- a line that passed the two tests
-whole : (c : tie.Else2) → (35 ≤ length (line (search rules))) × (is_ascii_of (line (search rules)) ≡ true)
-whole c = (search rules, so_true c.before.is_ascii.ensures c.if2.false)
+whole : (c : tie.Else-not-is_ascii) → (35 ≤ length (line (search rules))) × (is_ascii_of (line (search rules)) ≡ true)
+whole c = (search rules, so_true c.before.is_ascii.ensures c.if-not-is_ascii.false)
 
 -- is plain where its digits are
-digits_decide : (c : tie.Else2) → is_plain (line (search rules)) ≡ plain_digits (line (search rules))
+digits_decide : (c : tie.Else-not-is_ascii) → is_plain (line (search rules)) ≡ plain_digits (line (search rules))
 unfolding is_plain
 digits_decide c = holds (yes≤ (search rules)) (holds (whole c).1 refl)
 
 -- and is read by its fields
-by_fields : (c : tie.Else2) → read_fix (line (search rules)) ≡ read_b (line (search rules))
+by_fields : (c : tie.Else-not-is_ascii) → read_fix (line (search rules)) ≡ read_b (line (search rules))
 unfolding read_b ascii ascii_in
 by_fields c = pass _ (yes≤ (search rules)) (pass _ (whole c).1 refl)
 
@@ -35,4 +35,4 @@ quick_fix_spec =
     (search rules)
     (λ c. second _ (holds (yes≤ (search rules)) (fails _ (not_ascii c))) refl)
     (λ c κs. whole c)
-    (λ c. rw (digits_decide (search rules), ← by_fields (search rules)) c.plain-fix.ensures))
+    (λ c. rw (digits_decide (search rules), ← by_fields (search rules)) c.plain_fix.ensures))

@@ -6,29 +6,29 @@ use Rattle.b_quick.proofs.value.Statement.{statement}
 use Rattle.b_quick.proofs.value.Tie as tie
 
 -- what is left has digits alone, and its value from here is the value of the whole
-abbrev invariant-loop : tie.invariant-loop
+abbrev invariant-loop : tie.invariant-loop-i
 invariant-loop digits v₀ i₀ v i = (i ≤ length digits) × (all_digits_of (drop i digits) ≡ true)
     × (value_from v (drop i digits) ≡ value_from 0 digits)
 
-abbrev decreases-loop : tie.decreases-loop
+abbrev decreases-loop : tie.decreases-loop-i
 decreases-loop digits v₀ i₀ v i = length digits - i
 
-module _ (c : tie.In-loop invariant-loop decreases-loop) where
+module _ (c : tie.In-loop-i invariant-loop decreases-loop) where
   abbrev text : List ℕ
   text = c.before.before.args.digits.now
 
   abbrev i : ℕ
-  i = c.before.loop.i
+  i = c.before.loop-i.i
 
   abbrev v : ℕ
-  v = c.before.loop.v
+  v = c.before.loop-i.v
 
   here : (48 ≤ get_or text i 0) × (get_or text i 0 ≤ 57) × (all_digits_of (drop (i + 1) text) ≡ true)
-  here = rw add-one (head_digit _ _ (rw (drop-cons text i 0 (search rules)) at c.before.loop.invariant.1))
+  here = rw add-one (head_digit _ _ (rw (drop-cons text i 0 (search rules)) at c.before.loop-i.invariant.1))
 
   next : value_from (v * 10 + (get_or text i 0 - 48)) (drop (i + 1) text) ≡ value_from 0 text
   unfolding value_from
-  next = rw add-one (rw (drop-cons text i 0 (search rules)) at c.before.loop.invariant.2)
+  next = rw add-one (rw (drop-cons text i 0 (search rules)) at c.before.loop-i.invariant.2)
 
   -- the value so far is at most that of the whole, which has five digits at most
   five : v * 10 + (get_or text i 0 - 48) ≤ 99999
@@ -44,7 +44,7 @@ module _ (c : tie.In-loop invariant-loop decreases-loop) where
 ends : tie.Need-returns invariant-loop decreases-loop
 unfolding value_from
 ends c =
-    let l = c.before.loop in
+    let l = c.before.loop-i in
     let e : l.i ≡ length (c.before.before.args.digits.now) = search rules in
     rw (e, drop-length) at l.invariant.2
 

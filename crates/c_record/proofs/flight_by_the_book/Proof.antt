@@ -9,5 +9,5 @@ flight_by_the_book_spec =
     tie.close
     (tie.spec
     (search rules) (search rules) (search rules)
-    (λ c. rw c.enum_told.given.1)
-    (λ c. rw c.before.before.flight.given.1 c.by-the-book.ensures))
+    (λ c. rw c.in-Missing.is)
+    (λ c. rw c.before.in-On.is c.by_the_book.ensures))

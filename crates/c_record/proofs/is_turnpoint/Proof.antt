@@ -6,13 +6,13 @@ use Rattle.c_record.proofs.is_turnpoint.Statement.{statement}
 use Rattle.c_record.proofs.is_turnpoint.Tie as tie
 
 -- past the end there is no letter
-none : tie.Need-returns
+none : tie.Need-returns-then-line-le8
 unfolding turns ◌∨?◌ pick ◌=?◌
-none c = rw (get_or-eq_default {A = ℕ} _ 0 c.if1.true)
+none c = rw (get_or-eq_default {A = ℕ} _ 0 c.if-line-le8.true)
 
-south : tie.Need-returns-3
+south : tie.Need-returns
 unfolding turns ◌∨?◌ ◌=?◌
-south c = second _ (no= {b = 78} c.before.if2.false) refl
+south c = second _ (no= {b = 78} c.before.if-line-eq78.false) refl
 
 pub is_turnpoint_spec : {M : Type 1} → statement M
 unfolding turns ◌∨?◌

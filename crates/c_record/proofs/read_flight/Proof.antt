@@ -8,8 +8,8 @@ use Rattle.c_record.proofs.read_flight.Tie as tie
 abbrev text : tie.Start → List ℕ
 text b = b.args.text.now
 
-some : (c : tie.Else1) → zeros (text (search rules)) ≡ false
-some c = sym c.before.all-zeros.ensures ∙ c.if1.false
+some : (c : tie.Else-all_zeros) → zeros (text (search rules)) ≡ false
+some c = sym c.before.all_zeros.ensures ∙ c.if-all_zeros.false
 
 pub read_flight_spec : {M : Type 1} → statement M
 unfolding read_flight_of
@@ -17,9 +17,9 @@ read_flight_spec =
     tie.close
     (tie.spec
     (search rules)
-    (λ c. first _ (sym c.before.all-zeros.ensures ∙ c.if1.true) refl)
+    (λ c. first _ (sym c.before.all_zeros.ensures ∙ c.if-all_zeros.true) refl)
     (search rules) (search rules) (search rules)
     (λ c. second _ (some (search rules))
-    (on _ (came date_res c.before.date.given.1 c.before.before.before.parse.ensures) refl))
+    (on _ (came date_res c.in-Ok.is c.before.parse.ensures) refl))
     (λ c. second _ (some (search rules))
-    (off _ (came date_res c.before.no-date.given.1 c.before.before.before.parse.ensures))))
+    (off _ (came date_res c.in-Refused.is c.before.parse.ensures))))

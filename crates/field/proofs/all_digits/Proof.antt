@@ -22,7 +22,7 @@ loop-again c =
     let digit = c.before.is_digit.ensures in
     next_seen every_digit _ l.i l.all (search rules) l.invariant
     (elim c.if-not-is_digit.branch [
-      then-not-is_digit w ↦ w.all-is ∙ sym (fails _ (so_false digit w.if-not-is_digit.true))
+      | then-not-is_digit w ↦ w.all-is ∙ sym (fails _ (so_false digit w.if-not-is_digit.true))
       | else-not-is_digit w ↦ w.all-is ∙ sym (holds (so_true digit w.if-not-is_digit.false) refl)
     ])
 

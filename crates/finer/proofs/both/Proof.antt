@@ -30,5 +30,5 @@ both_spec =
     (tie.spec
     (search rules) (search rules) (search rules) (search rules)
     (λ c. no_lat _ _ (search rules))
-    (λ c. no_lon _ _ c.before.before.before.before.lat2.given.1 (search rules))
+    (λ c. no_lon _ _ c.before.in-Ok.is (search rules))
     (λ c. given _ _ (search rules) (search rules)))

@@ -9,7 +9,7 @@ is_negative_spec =
     tie.close
     (tie.spec
     (search rules) (search rules) (search rules) (search rules)
-    (λ c. ap is_negative_of (sym c.enum_told.given.1))
-    (λ c. ap is_negative_of (sym c.enum-told2.given.1))
-    (λ c. ap is_negative_of (sym c.enum-told3.given.1))
-    (λ c. ap is_negative_of (sym c.enum-told4.given.1)))
+    (λ c. ap is_negative_of (sym c.in-North.is))
+    (λ c. ap is_negative_of (sym c.in-South.is))
+    (λ c. ap is_negative_of (sym c.in-East.is))
+    (λ c. ap is_negative_of (sym c.in-West.is)))

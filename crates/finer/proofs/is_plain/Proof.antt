@@ -9,6 +9,6 @@ is_plain_spec =
     tie.close
     (tie.spec
     (search rules)
-    (λ c. first _ (sym c.before.is-undefined.ensures ∙ c.if1.true) refl)
+    (λ c. first _ (sym c.before.is_undefined.ensures ∙ c.if-is_undefined.true) refl)
     (search rules)
-    (λ c. second _ (sym c.before.before.is-undefined.ensures ∙ c.before.if1.false) c.is-undefined2.ensures))
+    (λ c. second _ (sym c.before.before.is_undefined.ensures ∙ c.before.if-is_undefined.false) c.is_undefined-2.ensures))

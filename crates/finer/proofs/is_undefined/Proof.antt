@@ -5,9 +5,9 @@ use Rattle.finer.specs.Finer.{is_undefined_of}
 use Rattle.finer.proofs.is_undefined.Statement.{statement}
 use Rattle.finer.proofs.is_undefined.Tie as tie
 
-refused : tie.Need-returns-2
+refused : tie.Need-returns-in-Refused
 unfolding is_undefined_of ◌=?◌
-refused c = rw c.number.ensures (ap (λ f. is_undefined_of (found_res f)) (sym c.before.before.found.given.1))
+refused c = rw c.number.ensures (ap (λ f. is_undefined_of (found_res f)) (sym c.before.in-Refused.is))
 
 pub is_undefined_spec : {M : Type 1} → statement M
 unfolding is_undefined_of
@@ -15,5 +15,5 @@ is_undefined_spec =
     tie.close
     (tie.spec
     (search rules) (search rules) (search rules)
-    (λ c. ap (λ f. is_undefined_of (found_res f)) (sym c.enum_told.given.1))
+    (λ c. ap (λ f. is_undefined_of (found_res f)) (sym c.in-At.is))
     refused)

@@ -8,23 +8,23 @@ use Rattle.finer.proofs.position_by.Tie as tie
 abbrev line : tie.Start → List ℕ
 line b = b.args.line.now
 
-plain : tie.Need-returns
+plain : tie.Need-returns-then-is_plain
 unfolding position_by_of
 plain c =
     let lon = c.before in
     let lat = lon.before in
     let test = lat.before.before in
-    first _ (sym test.is_plain.ensures ∙ lat.before.if1.true)
-    (rw (c.both.ensures, lat.finer.ensures, lon.finer2.ensures, none_read, none_read))
+    first _ (sym test.is_plain.ensures ∙ lat.before.if-is_plain.true)
+    (rw (c.both.ensures, lat.finer.ensures, lon.finer-then-is_plain.ensures, none_read, none_read))
 
-fine : tie.Need-returns-2
+fine : tie.Need-returns
 unfolding position_by_of
 fine c =
     let lon = c.before in
     let lat = lon.before in
     let test = lat.before.before in
-    second _ (sym test.is_plain.ensures ∙ lat.before.if1.false)
-    (rw (c.both2.ensures, lat.finer3.ensures, lon.finer4.ensures))
+    second _ (sym test.is_plain.ensures ∙ lat.before.if-is_plain.false)
+    (rw (c.both-2.ensures, lat.finer-2.ensures, lon.finer-3.ensures))
 
 pub position_by_spec : {M : Type 1} → statement M
 position_by_spec =

@@ -6,22 +6,22 @@ use Rattle.finer.proofs.Small.{power_le}
 use Rattle.finer.proofs.power.Statement.{statement}
 use Rattle.finer.proofs.power.Tie as tie
 
-abbrev invariant-loop : tie.invariant-loop
+abbrev invariant-loop : tie.invariant-loop-i
 invariant-loop n parts₀ i₀ parts i = (i ≤ n) × (parts ≡ 10 ^ i)
 
-abbrev decreases-loop : tie.decreases-loop
+abbrev decreases-loop : tie.decreases-loop-i
 decreases-loop n parts₀ i₀ parts i = n - i
 
-mul_parts : tie.Need-overflow-mul-parts invariant-loop decreases-loop
-mul_parts c = omega (arith, power_le c.before.loop.i (omega arith))
+mul_parts : tie.Need-overflow_mul-parts invariant-loop decreases-loop
+mul_parts c = omega (arith, power_le c.before.loop-i.i (omega arith))
 
-loop-again : tie.Need-loop-preserved invariant-loop decreases-loop
+loop-again : tie.Need-loop-i-preserved invariant-loop decreases-loop
 loop-again c = (search rules, rw (add-one, pow-suc) (omega arith))
 
 returns : tie.Need-returns invariant-loop decreases-loop
 returns c =
-    let e : c.before.loop.i ≡ c.before.before.args.n = omega arith in
-    c.before.loop.invariant.1 ∙ ap (λ k. 10 ^ k) e
+    let e : c.before.loop-i.i ≡ c.before.before.args.n = omega arith in
+    c.before.loop-i.invariant.1 ∙ ap (λ k. 10 ^ k) e
 
 pub power_spec : {M : Type 1} → statement M
 power_spec =

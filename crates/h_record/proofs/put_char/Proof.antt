@@ -5,10 +5,10 @@ use Rattle.h_record.specs.HRecord.{char_text}
 use Rattle.h_record.proofs.put_char.Statement.{statement}
 use Rattle.h_record.proofs.put_char.Tie as tie
 
-one : (c : tie.Then1) → (c.before.before.args.b ≤? 127) ≡ true
+one : (c : tie.Then-b-le127) → (c.before.before.args.b ≤? 127) ≡ true
 one c = yes≤ (search rules)
 
-two : (c : tie.Else1) → (c.before.before.args.b ≤? 127) ≡ false
+two : (c : tie.Else-b-le127) → (c.before.before.args.b ≤? 127) ≡ false
 two c = no≤ (search rules)
 
 pub put_char_spec : {M : Type 1} → statement M

@@ -7,8 +7,8 @@ use Rattle.h_record.specs.HRecord.{name_text}
 use Rattle.h_record.proofs.put_name.Statement.{statement}
 use Rattle.h_record.proofs.put_name.Tie as tie
 
-there : (c : tie.After-name) → c.before.before.before.before.args.name ≡ At c.name.given.0.0
-there c = c.name.given.1
+there : (c : tie.In-At) → c.before.before.before.args.name ≡ At c.in-At.p
+there c = c.in-At.is
 
 pub put_name_spec : {M : Type 1} → statement M
 unfolding name_text find_maybe
@@ -16,6 +16,6 @@ put_name_spec =
     tie.close
     (tie.spec
     (search rules) (search rules) (search rules) (search rules)
-    (λ c. rw c.enum_told.given.1 (wrote_nothing _ _ (omega arith) (omega arith)))
+    (λ c. rw c.in-Missing.is (wrote_nothing _ _ (omega arith) (omega arith)))
     (search rules)
     (λ c. rw (there (search rules)) (search (then))))

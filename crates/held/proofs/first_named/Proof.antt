@@ -8,29 +8,29 @@ use Rattle.held.proofs.first_named.Statement.{statement}
 use Rattle.held.proofs.first_named.Tie as tie
 
 -- what is left, from here on, is the whole
-abbrev invariant-loop : tie.invariant-loop
+abbrev invariant-loop : tie.invariant-loop-i
 invariant-loop name table n i₀ i = first_named_of name (drop i (defs_of table)) ≡ first_named_of name (defs_of table)
 
-abbrev decreases-loop : tie.decreases-loop
+abbrev decreases-loop : tie.decreases-loop-i
 decreases-loop name table n i₀ i = n - i
 
-inside : (c : tie.Start invariant-loop decreases-loop) → c.args.t1.count ≤ length c.args.t1.defs
-inside c = let n : length c.args.t1.defs ≡ 99 = search (rules, long_under) in omega arith
+inside : (c : tie.Start invariant-loop decreases-loop) → c.args.table.count ≤ length c.args.table.defs
+inside c = let n : length c.args.table.defs ≡ 99 = search (rules, long_under) in omega arith
 
-here : tie.Need-returns invariant-loop decreases-loop
+here : tie.Need-returns-then-same_name invariant-loop decreases-loop
 here c =
-    let l = c.before.before.before.before.before.loop in
-    first _ (sym c.before.same_name.ensures ∙ c.if1.true) refl ∙ first_or_later _ _ l.i
+    let l = c.before.before.before.before.before.loop-i in
+    first _ (sym c.before.same_name.ensures ∙ c.if-same_name.true) refl ∙ first_or_later _ _ l.i
     (inside (search rules)) (search rules) ∙ l.invariant
 
-later : tie.Need-loop-preserved invariant-loop decreases-loop
+later : tie.Need-loop-i-preserved invariant-loop decreases-loop
 later c =
-    let l = c.before.before.before.before.before.loop in
-    second _ (sym c.before.same_name.ensures ∙ c.if1.false) refl ∙ first_or_later _ _ l.i
+    let l = c.before.before.before.before.before.loop-i in
+    second _ (sym c.before.same_name.ensures ∙ c.if-same_name.false) refl ∙ first_or_later _ _ l.i
     (inside (search rules)) (search rules) ∙ l.invariant
 
-none : tie.Need-returns-2 invariant-loop decreases-loop
-none c = none_left _ _ c.before.loop.i (inside (search rules)) (search rules) ∙ c.before.loop.invariant
+none : tie.Need-returns invariant-loop decreases-loop
+none c = none_left _ _ c.before.loop-i.i (inside (search rules)) (search rules) ∙ c.before.loop-i.invariant
 
 pub first_named_spec : {M : Type 1} → statement M
 first_named_spec =

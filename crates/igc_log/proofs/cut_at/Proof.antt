@@ -8,8 +8,8 @@ cut_at_spec =
     tie.close
     (tie.spec
     (search rules) (search rules)
-    (λ c. not_before _ _ _ c.before.before.lf-from.ensures _ c.text_end_of.ensures)
+    (λ c. not_before _ _ _ c.before.before.lf_from-lf.ensures _ c.text_end-end.ensures)
     (search rules)
-    (λ c. cut_closed _ _ _ c.before.before.lf-from.ensures c.before.if1.true _ c.text_end_of.ensures)
+    (λ c. cut_closed _ _ _ c.before.before.lf_from-lf.ensures c.before.if-lf-log.true _ c.text_end-end.ensures)
     (search rules)
-    (λ c. cut_open _ _ _ c.before.lf-from.ensures c.if1.false))
+    (λ c. cut_open _ _ _ c.before.lf_from-lf.ensures c.if-lf-log.false))

@@ -9,6 +9,6 @@ text_end_spec =
     tie.close
     (tie.spec
     (search rules) (search rules) (search rules)
-    (λ c. first _ (and (yes≤ (omega arith)) (yes= c.if2.true)) refl)
-    (λ c. second _ (holds (yes≤ (omega arith)) (no= c.if2.false)) refl)
+    (λ c. first _ (and (yes≤ (omega arith)) (yes= c.if-log-lf-eq13.true)) refl)
+    (λ c. second _ (holds (yes≤ (omega arith)) (no= c.if-log-lf-eq13.false)) refl)
     (λ c. second _ (fails _ (no≤ (omega arith))) refl))

@@ -1,4 +1,3 @@
-
 use Rattle.text.proofs.Prelude.{rules, arith, refl, first, second, yes≤, no≤, holds, fails, and}
 use lib.ListN.{get_or-eq_default}
 use Rattle.listing_text.specs.Line.{first_letter}

@@ -5,8 +5,8 @@ use Rattle.manufacturer.proofs.Search.{at_place, past}
 use Rattle.manufacturer.proofs.listed.Statement.{statement}
 use Rattle.manufacturer.proofs.listed.Tie as tie
 
-last : (c : tie.At-match-rest) → c.before.args.place ≡ 22
-last c = let h = past 22 c.match.rest in omega arith
+last : (c : tie.In_default) → c.before.args.place ≡ 22
+last c = let h = past 22 c.in_default.in_default-own.rest in omega arith
 
 pub listed_spec : {M : Type 1} → statement M
 unfolding known letter_of_lem triple_of triple_spelt pick ◌=?◌

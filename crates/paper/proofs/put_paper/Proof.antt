@@ -1,4 +1,3 @@
-
 use Rattle.text.proofs.Prelude.{rules, arith}
 use Rattle.listing_text.proofs.Limit.{paper_has_room}
 use Rattle.paper.proofs.Fitting.{all_written, not_refused}

@@ -12,4 +12,4 @@ one_of_spec =
     (search rules) (search rules)
     (λ c. first _ (yes= (search rules)) refl)
     (search rules)
-    (λ c. second _ (no= (search rules)) (same c.before.before.before.letter.ensures c.letter3.ensures)))
+    (λ c. second _ (no= (search rules)) (same c.before.before.before.letter-letter.ensures c.letter-2.ensures)))

@@ -5,23 +5,23 @@ use Rattle.records.specs.Record.{read_kind}
 use Rattle.records.proofs.parse_b.Statement.{statement}
 use Rattle.records.proofs.parse_b.Tie as tie
 
-quick : tie.Need-returns
+quick : tie.Need-returns-in-Fix
 unfolding read_kind
 quick c =
-    let fix = c.before in
-    on _ (quick_is_read _ (sym fix.fix.given.1 ∙ fix.before.before.quick-fix.ensures)) refl
+    let fix = c in
+    on _ (quick_is_read _ (sym fix.in-Fix.is ∙ fix.before.quick_fix.ensures)) refl
 
-plain : tie.Need-returns-2
+plain : tie.Need-returns-in-Ok
 unfolding read_kind
 plain c =
-    let b = c.before in
-    on _ (came b_res b.b.given.1 b.before.before.parse.ensures) refl
+    let b = c in
+    on _ (came b_res b.in-Ok.is b.before.parse.ensures) refl
 
-refused : tie.Need-returns-3
+refused : tie.Need-returns-in-Refused
 unfolding read_kind
 refused c =
-    let no-b = c.before in
-    off _ (came b_res no-b.no-b.given.1 no-b.before.before.parse.ensures)
+    let no-b = c in
+    off _ (came b_res no-b.in-Refused.is no-b.before.parse.ensures)
 
 pub parse_b_spec : {M : Type 1} → statement M
 parse_b_spec =

@@ -9,26 +9,26 @@ use Rattle.records.proofs.parse_c.Tie as tie
 abbrev line : tie.Start → List ℕ
 line b = b.args.line.now
 
-long : (c : tie.Else1) → 9 ≤ length (line (search rules))
-long c = c.if1.false
+long : (c : tie.Else-line-lt9) → 9 ≤ length (line (search rules))
+long c = c.if-line-lt9.false
 
-turn : (c : tie.Then2) → turns (line (search rules)) ≡ true
-turn c = sym c.before.is-turnpoint.ensures ∙ c.if2.true
+turn : (c : tie.Then-is_turnpoint) → turns (line (search rules)) ≡ true
+turn c = sym c.before.is_turnpoint.ensures ∙ c.if-is_turnpoint.true
 
-no_turn : (c : tie.Else2) → turns (line (search rules)) ≡ false
-no_turn c = sym c.before.is-turnpoint.ensures ∙ c.if2.false
+no_turn : (c : tie.Else-is_turnpoint) → turns (line (search rules)) ≡ false
+no_turn c = sym c.before.is_turnpoint.ensures ∙ c.if-is_turnpoint.false
 
-point : (c : tie.After-point) → ok c.point.given.0.0 ≡ read_turnpoint (line (search rules))
-point c = came turnpoint_res c.point.given.1 c.before.before.parse.ensures
+point : (c : tie.In-Ok) → ok c.in-Ok.point ≡ read_turnpoint (line (search rules))
+point c = came turnpoint_res c.in-Ok.is c.before.parse.ensures
 
-no_point : (c : tie.After-no-point) → no c.no-point.given.0.0 ≡ read_turnpoint (line (search rules))
-no_point c = came turnpoint_res c.no-point.given.1 c.before.before.parse.ensures
+no_point : (c : tie.In-Refused) → no c.in-Refused.no_point ≡ read_turnpoint (line (search rules))
+no_point c = came turnpoint_res c.in-Refused.is c.before.parse.ensures
 
-task : (c : tie.After-task) → ok c.task.given.0.0 ≡ read_declaration (line (search rules))
-task c = came declaration_res c.task.given.1 c.before.before.parse2.ensures
+task : (c : tie.In-Ok-parse) → ok c.in-Ok-parse.task ≡ read_declaration (line (search rules))
+task c = came declaration_res c.in-Ok-parse.is c.before.parse-2.ensures
 
-no_task : (c : tie.After-no-task) → no c.no-task.given.0.0 ≡ read_declaration (line (search rules))
-no_task c = came declaration_res c.no-task.given.1 c.before.before.parse2.ensures
+no_task : (c : tie.In-Refused-parse) → no c.in-Refused-parse.no_task ≡ read_declaration (line (search rules))
+no_task c = came declaration_res c.in-Refused-parse.is c.before.parse-2.ensures
 
 pub parse_c_spec : {M : Type 1} → statement M
 unfolding read_c read_kind

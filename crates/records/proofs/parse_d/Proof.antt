@@ -10,5 +10,5 @@ parse_d_spec =
     tie.close
     (tie.spec
     (search rules) (search rules) (search rules)
-    (λ c. on _ (came d_res c.before.d.given.1 c.before.before.before.parse.ensures) refl)
-    (λ c. off _ (came d_res c.before.no-d.given.1 c.before.before.before.parse.ensures)))
+    (λ c. on _ (came d_res c.in-Ok.is c.before.parse.ensures) refl)
+    (λ c. off _ (came d_res c.in-Refused.is c.before.parse.ensures)))

@@ -10,5 +10,5 @@ parse_e_spec =
     tie.close
     (tie.spec
     (search rules) (search rules) (search rules)
-    (λ c. on _ (came e_res c.before.e.given.1 c.before.before.before.parse.ensures) refl)
-    (λ c. off _ (came e_res c.before.no-e.given.1 c.before.before.before.parse.ensures)))
+    (λ c. on _ (came e_res c.in-Ok.is c.before.parse.ensures) refl)
+    (λ c. off _ (came e_res c.in-Refused.is c.before.parse.ensures)))

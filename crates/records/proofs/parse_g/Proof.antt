@@ -10,5 +10,5 @@ parse_g_spec =
     tie.close
     (tie.spec
     (search rules) (search rules) (search rules)
-    (λ c. on _ (came g_res c.before.g.given.1 c.before.before.before.parse.ensures) refl)
-    (λ c. off _ (came g_res c.before.no-g.given.1 c.before.before.before.parse.ensures)))
+    (λ c. on _ (came g_res c.in-Ok.is c.before.parse.ensures) refl)
+    (λ c. off _ (came g_res c.in-Refused.is c.before.parse.ensures)))

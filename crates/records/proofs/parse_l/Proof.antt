@@ -10,5 +10,5 @@ parse_l_spec =
     tie.close
     (tie.spec
     (search rules) (search rules) (search rules)
-    (λ c. on _ (came l_res c.before.l.given.1 c.before.before.before.parse.ensures) refl)
-    (λ c. off _ (came l_res c.before.no-l.given.1 c.before.before.before.parse.ensures)))
+    (λ c. on _ (came l_res c.in-Ok.is c.before.parse.ensures) refl)
+    (λ c. off _ (came l_res c.in-Refused.is c.before.parse.ensures)))

@@ -8,5 +8,5 @@ parse_table_spec =
     tie.close
     (tie.spec
     (search rules) (search rules) (search rules)
-    (λ c. verdict_accepted _ _ c.before.before.parse.ensures c.enum_told.given.1)
-    (λ c. verdict_refused _ _ c.before.before.before.parse.ensures c.before.verdict.given.1))
+    (λ c. verdict_accepted _ _ c.before.parse-verdict.ensures c.in-Accepted.is)
+    (λ c. verdict_refused _ _ c.before.parse-verdict.ensures c.in-Refused.is))

@@ -1,4 +1,3 @@
-
 use Rattle.text.proofs.Prelude.{rules, refl, sym, ◌∙◌, never}
 use Rattle.window.specs.Piece.{piece_end_of}
 use Rattle.window.proofs.Wholes.{whole_le}

@@ -9,38 +9,38 @@ use Rattle.three.proofs.read_three.Tie as tie
 abbrev text : tie.Start → List ℕ
 text b = b.args.text.now
 
-six : (c : tie.Else1) → length (text (search rules)) ≡ 6
-six c = c.if1.false
+six : (c : tie.Else-text-ne6) → length (text (search rules)) ≡ 6
+six c = c.if-text-ne6.false
 
-first : (c : tie.After-first) → ok c.first.given.0.0 ≡ columns 0 2 (read_nat_of 255) (text (search rules))
+first : (c : tie.In-Ok) → ok c.in-Ok.first ≡ columns 0 2 (read_nat_of 255) (text (search rules))
 unfolding columns cut
-first c = found_in 0 (came u8_res c.first.given.1 c.before.before.read-u8.ensures)
+first c = found_in 0 (came u8_res c.in-Ok.is c.before.read_u8.ensures)
 
 no_first : (c : tie.After-moved) → no c.moved.result ≡ columns 0 2 (read_nat_of 255) (text (search rules))
 unfolding columns cut
-no_first c = refused_in 0 (came u8_res c.before.before.no-first.given.1
-    c.before.before.before.before.read-u8.ensures)
+no_first c = refused_in 0 (came u8_res c.before.in-Refused.is
+    c.before.before.read_u8.ensures)
     c.moved.ensures
 
-second : (c : tie.After-second) → ok c.second.given.0.0 ≡ columns 2 4 (read_nat_of 255) (text (search rules))
+second : (c : tie.In-Ok-read_u8) → ok c.in-Ok-read_u8.second ≡ columns 2 4 (read_nat_of 255) (text (search rules))
 unfolding columns cut
-second c = found_in 2 (came u8_res c.second.given.1 c.before.before.read-u82.ensures)
+second c = found_in 2 (came u8_res c.in-Ok-read_u8.is c.before.read_u8-2.ensures)
 
-no_second : (c : tie.After-moved2) → no c.moved2.result ≡ columns 2 4 (read_nat_of 255) (text (search rules))
+no_second : (c : tie.After-moved-in-Refused-read_u8) → no c.moved-in-Refused-read_u8.result ≡ columns 2 4 (read_nat_of 255) (text (search rules))
 unfolding columns cut
-no_second c = refused_in 2 (came u8_res c.before.before.no_second.given.1
-    c.before.before.before.before.read-u82.ensures)
-    c.moved2.ensures
+no_second c = refused_in 2 (came u8_res c.before.in-Refused-read_u8.is
+    c.before.before.read_u8-2.ensures)
+    c.moved-in-Refused-read_u8.ensures
 
-third : (c : tie.After-third) → ok c.third.given.0.0 ≡ columns 4 6 (read_nat_of 255) (text (search rules))
+third : (c : tie.In-Ok-read_u8-2) → ok c.in-Ok-read_u8-2.third ≡ columns 4 6 (read_nat_of 255) (text (search rules))
 unfolding columns cut
-third c = found_in 4 (came u8_res c.third.given.1 c.before.before.read-u83.ensures)
+third c = found_in 4 (came u8_res c.in-Ok-read_u8-2.is c.before.read_u8-3.ensures)
 
-no_third : (c : tie.After-moved3) → no c.moved3.result ≡ columns 4 6 (read_nat_of 255) (text (search rules))
+no_third : (c : tie.After-moved-in-Refused-read_u8-2) → no c.moved-in-Refused-read_u8-2.result ≡ columns 4 6 (read_nat_of 255) (text (search rules))
 unfolding columns cut
-no_third c = refused_in 4 (came u8_res c.before.before.no_third.given.1
-    c.before.before.before.before.read-u83.ensures)
-    c.moved3.ensures
+no_third c = refused_in 4 (came u8_res c.before.in-Refused-read_u8-2.is
+    c.before.before.read_u8-3.ensures)
+    c.moved-in-Refused-read_u8-2.ensures
 
 pub read_three_spec : {M : Type 1} → statement M
 unfolding sized read_three_of

@@ -8,6 +8,6 @@ unfolding piece_end_of
 piece_end_spec =
     tie.close
     (tie.spec
-    (λ c. rw c.if1.true)
+    (λ c. rw c.if-last.true)
     (search rules)
-    (λ c. rw (c.before.if1.false, c.whole_length.ensures)))
+    (λ c. rw (c.before.if-last.false, c.whole_length.ensures)))

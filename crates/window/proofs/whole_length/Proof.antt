@@ -3,10 +3,10 @@ use Rattle.window.proofs.Wholes.{NoneFrom, none_yet, none_at_all, last_here, non
 use Rattle.window.proofs.whole_length.Statement.{statement}
 use Rattle.window.proofs.whole_length.Tie as tie
 
-abbrev invariant-loop : tie.invariant-loop
+abbrev invariant-loop : tie.invariant-loop-i
 invariant-loop piece i₀ i = NoneFrom piece i
 
-abbrev decreases-loop : tie.decreases-loop
+abbrev decreases-loop : tie.decreases-loop-i
 decreases-loop piece i₀ i = i
 
 pub whole_length_spec : {M : Type 1} → statement M
@@ -17,7 +17,7 @@ whole_length_spec =
     decreases-loop
     (λ c. none_yet _)
     (search rules) (search rules)
-    (λ c. last_here c.before.before.before.loop.invariant c.before.before.loop-test.true c.if1.true)
+    (λ c. last_here c.before.before.before.loop-i.invariant c.before.before.loop-i-test.true c.if-piece-i-eq10.true)
     (search rules) (search rules)
-    (λ c. none_here c.before.before.before.loop.invariant c.before.before.loop-test.true c.if1.false)
-    (λ c. none_at_all c.before.loop.invariant c.loop-test.false))
+    (λ c. none_here c.before.before.before.loop-i.invariant c.before.before.loop-i-test.true c.if-piece-i-eq10.false)
+    (λ c. none_at_all c.before.loop-i.invariant c.loop-i-test.false))

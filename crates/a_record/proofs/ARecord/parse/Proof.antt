@@ -7,13 +7,13 @@ use Rattle.a_record.proofs.ARecord.parse.Tie as tie
 abbrev line : tie.Start → List ℕ
 line b = b.args.line.now
 
-letter : (c : tie.Then3) → letter_form (line (search rules)) ≡ true
+letter : (c : tie.Then-all_digits) → letter_form (line (search rules)) ≡ true
 unfolding letter_form cut
-letter c = sym c.before.all_digits.ensures ∙ c.if3.true
+letter c = sym c.before.all_digits.ensures ∙ c.if-all_digits.true
 
-no_letter : (c : tie.Else3) → letter_form (line (search rules)) ≡ false
+no_letter : (c : tie.Else-all_digits) → letter_form (line (search rules)) ≡ false
 unfolding letter_form cut
-no_letter c = sym c.before.all_digits.ensures ∙ c.if3.false
+no_letter c = sym c.before.all_digits.ensures ∙ c.if-all_digits.false
 
 pub parse_spec : {M : Type 1} → statement M
 unfolding read_a
@@ -30,7 +30,7 @@ parse_spec =
     (λ c. pass _ (yes≤ (search rules))
     (pass _ (yes= (search rules))
     (first _ (letter (search rules))
-    (pass _ (yes≤ (search rules)) (ap ok (c.with-id.ensures ∙ rw c.before.parse-single-char.ensures))))))
+    (pass _ (yes≤ (search rules)) (ap ok (c.with_id.ensures ∙ rw c.before.parse_single_char-maker.ensures))))))
     (search rules)
     (λ c. pass _ (yes≤ (search rules))
-    (pass _ (yes= (search rules)) (second _ (no_letter (search rules)) c.parse-triple.ensures))))
+    (pass _ (yes= (search rules)) (second _ (no_letter (search rules)) c.parse_triple.ensures))))

@@ -15,31 +15,31 @@ first b = find_part b.args.self.unique_id (b.args.line.now)
 abbrev second : tie.Start → Res Part
 second b = find_maybe b.args.self.id_extension (b.args.line.now)
 
-id : (c : tie.After--id) → ok c.-id.given.0.0 ≡ first (search rules)
-id c = came found_res c.-id.given.1 c.before.before.find.ensures
+id : (c : tie.In-At) → ok c.in-At._id ≡ first (search rules)
+id c = came found_res c.in-At.is c.before.find.ensures
 
-no_id : (c : tie.After-no-id) → no c.no-id.given.0.0 ≡ first (search rules)
-no_id c = came found_res c.no-id.given.1 c.before.before.find.ensures
+no_id : (c : tie.In-Refused) → no c.in-Refused.no_id ≡ first (search rules)
+no_id c = came found_res c.in-Refused.is c.before.find.ensures
 
-rest : (c : tie.After--rest) → ok c.-rest.given.0.0 ≡ second (search rules)
-rest c = came found_res c.-rest.given.1 c.before.before.find2.ensures
+rest : (c : tie.In-At-find) → ok c.in-At-find._rest ≡ second (search rules)
+rest c = came found_res c.in-At-find.is c.before.find-in-At.ensures
 
-no_rest : (c : tie.After-no-rest) → no c.no-rest.given.0.0 ≡ second (search rules)
-no_rest c = came found_res c.no-rest.given.1 c.before.before.find2.ensures
+no_rest : (c : tie.In-Refused-find) → no c.in-Refused-find.no_rest ≡ second (search rules)
+no_rest c = came found_res c.in-Refused-find.is c.before.find-in-At.ensures
 
-full : tie.Need-returns
+full : tie.Need-returns-then-buf-put_piece
 unfolding a_text part_text maybe_text
 full c = no_room (on _ (text_found _ (id (search rules))) (on _ (text_found _ (rest (search rules))) refl))
-    c.before.before.put-piece.ensures (search rules)
+    c.before.before.put_piece.ensures (search rules)
 
-fits : tie.Need-returns-4
+fits : tie.Need-returns-else-buf-put_piece
 unfolding a_text part_text maybe_text
 fits c =
     written
     (on _ (text_found _ (id (search rules))) (on _ (text_found _ (rest (search rules))) refl))
-    c.before.before.before.before.before.before.put-piece.ensures
+    c.before.before.before.before.before.before.put_piece.ensures
     (search rules)
-    c.before.before.put-piece2.ensures
+    c.before.before.put_piece-in-At-find.ensures
 
 pub print_spec : {M : Type 1} → statement M
 unfolding a_text part_text maybe_text text_of

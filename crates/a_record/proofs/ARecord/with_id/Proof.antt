@@ -7,4 +7,4 @@ pub with_id_spec : {M : Type 1} → statement M
 unfolding a_of
 with_id_spec = tie.close
     (tie.spec (search rules) (search rules) (search rules)
-    (λ c. c.new.ensures ∙ rw c.before.from-column.ensures))
+    (λ c. c.new.ensures ∙ rw c.before.from_column.ensures))

@@ -10,11 +10,11 @@ use Rattle.c_record.proofs.CRecordDeclaration.by_the_book.Tie as tie
 abbrev self : tie.Start → CRecordDeclaration
 self b = b.args.self
 
-date : (c : tie.Then1) → date_book (self (search rules)).date ≡ true
-date c = sym c.before.by-the-book.ensures ∙ c.if1.true
+date : (c : tie.Then-by_the_book) → date_book (self (search rules)).date ≡ true
+date c = sym c.before.by_the_book.ensures ∙ c.if-by_the_book.true
 
-time : (c : tie.Then2) → time_book (self (search rules)).time ≡ true
-time c = sym c.before.by-the-book2.ensures ∙ c.if2.true
+time : (c : tie.Then-by_the_book-2) → time_book (self (search rules)).time ≡ true
+time c = sym c.before.by_the_book-then-by_the_book.ensures ∙ c.if-by_the_book-2.true
 
 pub by_the_book_spec : {M : Type 1} → statement M
 unfolding declaration_book
@@ -22,6 +22,6 @@ by_the_book_spec =
     tie.close
     (tie.spec
     (search rules) (search rules) (search rules)
-    (λ c. sym (holds (date (search rules)) (holds (time (search rules)) (sym c.flight-by-the-book.ensures))))
-    (λ c. sym (holds (date (search rules)) (fails _ (sym c.before.by-the-book2.ensures ∙ c.if2.false))))
-    (λ c. sym (fails _ (sym c.before.by-the-book.ensures ∙ c.if1.false))))
+    (λ c. sym (holds (date (search rules)) (holds (time (search rules)) (sym c.flight_by_the_book.ensures))))
+    (λ c. sym (holds (date (search rules)) (fails _ (sym c.before.by_the_book-then-by_the_book.ensures ∙ c.if-by_the_book-2.false))))
+    (λ c. sym (fails _ (sym c.before.by_the_book.ensures ∙ c.if-by_the_book.false))))

@@ -14,24 +14,24 @@ line b = b.args.line.now
 abbrev name : tie.Start → MaybePart
 name b = b.args.self.task_name
 
-found : (c : tie.After--inside) → ok c.-inside.given.0.0 ≡ find_maybe (name (search rules)) (line (search rules))
-found c = came found_res c.-inside.given.1 c.before.before.find.ensures
+found : (c : tie.In-At) → ok c.in-At._inside ≡ find_maybe (name (search rules)) (line (search rules))
+found c = came found_res c.in-At.is c.before.find.ensures
 
-outside : tie.Need-returns-2
+outside : tie.Need-returns-in-Refused
 unfolding declaration_text maybe_text text_of
 outside c =
-    refused _ (off _ (off _ (came found_res c.before.no.given.1 c.before.before.before.find.ensures)))
+    refused _ (off _ (off _ (came found_res c.in-Refused.is c.before.find.ensures)))
 
-full : tie.Need-returns
+full : tie.Need-returns-then-buf-put_piece
 unfolding declaration_text maybe_text
-full c = no_room (on _ (text_found _ (found (search rules))) refl) c.before.before.put-piece.ensures
+full c = no_room (on _ (text_found _ (found (search rules))) refl) c.before.before.put_piece.ensures
     (search rules)
 
-fits : tie.Need-returns-3
+fits : tie.Need-returns-else-buf-put_piece
 unfolding declaration_text maybe_text
 fits c = written (on _ (text_found _ (found (search rules))) refl)
-    c.before.before.before.before.before.before.put-piece.ensures (search rules)
-    c.before.before.put-piece2.ensures
+    c.before.before.before.before.before.before.put_piece.ensures (search rules)
+    c.before.before.put_piece-in-At.ensures
 
 pub print_spec : {M : Type 1} → statement M
 print_spec = tie.close (tie.spec (search rules) (search rules) (search rules) (search rules) (search rules) full

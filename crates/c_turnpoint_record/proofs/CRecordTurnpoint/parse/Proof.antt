@@ -10,19 +10,19 @@ use Rattle.c_turnpoint_record.proofs.CRecordTurnpoint.parse.Tie as tie
 abbrev line : tie.Start → List ℕ
 line b = b.args.line.now
 
-ascii : (c : tie.Else3) → is_ascii_of (cut 0 18 (line (search rules))) ≡ true
+ascii : (c : tie.Else-not-is_ascii) → is_ascii_of (cut 0 18 (line (search rules))) ≡ true
 unfolding cut
 ascii c = search (so_true)
 
-position : (c : tie.After-position) → ok c.position.given.0.0 ≡ columns 1 18 read_position (line (search rules))
+position : (c : tie.In-Ok) → ok c.in-Ok.position ≡ columns 1 18 read_position (line (search rules))
 unfolding columns cut
-position c = found_in _ (came position_res c.position.given.1 c.before.before.parse.ensures)
+position c = found_in _ (came position_res c.in-Ok.is c.before.parse.ensures)
 
 no_position : (c : tie.After-moved) →
     no c.moved.result ≡ columns 1 18 read_position (line (search rules))
 unfolding columns cut
-no_position c = refused_in _ (came position_res c.before.before.no-position.given.1
-    c.before.before.before.before.parse.ensures)
+no_position c = refused_in _ (came position_res c.before.in-Refused.is
+    c.before.before.parse.ensures)
     c.moved.ensures
 
 pub parse_spec : {M : Type 1} → statement M
@@ -39,6 +39,6 @@ parse_spec =
     (search rules)
     (λ c. pass _ (yes≤ (search rules))
     (pass _ (yes= (search rules))
-    (pass _ (ascii (search rules)) (on _ (position (search rules)) (rw c.from-column.ensures)))))
+    (pass _ (ascii (search rules)) (on _ (position (search rules)) (rw c.from_column.ensures)))))
     (λ c. pass _ (yes≤ (search rules))
     (pass _ (yes= (search rules)) (pass _ (ascii (search rules)) (off _ (no_position (search rules)))))))

@@ -10,5 +10,5 @@ lettered_spec =
     tie.close
     (tie.spec
     (search rules) (search rules) (search rules)
-    (λ c. on _ (came coord_res c.before.coord.given.1 c.before.before.before.lettered.ensures) refl)
-    (λ c. off _ (came coord_res c.before.no.given.1 c.before.before.before.lettered.ensures)))
+    (λ c. on _ (came coord_res c.in-Ok.is c.before.lettered.ensures) refl)
+    (λ c. off _ (came coord_res c.in-Refused.is c.before.lettered.ensures)))

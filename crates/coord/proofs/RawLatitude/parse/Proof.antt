@@ -13,4 +13,4 @@ parse_spec =
     (search rules)
     (λ c. off _ (not_ascii _ _ _ (search rules) (search (so_false))))
     (search rules)
-    (λ c. c.parse-ascii.ensures ∙ ap latitude (field_of_ascii _ _ _ (search (so_true)))))
+    (λ c. c.parse_ascii.ensures ∙ ap latitude (field_of_ascii _ _ _ (search (so_true)))))

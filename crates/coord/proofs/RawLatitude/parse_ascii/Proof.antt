@@ -10,5 +10,5 @@ parse_ascii_spec =
     tie.close
     (tie.spec
     (search rules) (search rules) (search rules)
-    (λ c. on _ (came coord_res c.before.coord.given.1 c.before.before.before.parse-ascii.ensures) refl)
-    (λ c. off _ (came coord_res c.before.no.given.1 c.before.before.before.parse-ascii.ensures)))
+    (λ c. on _ (came coord_res c.in-Ok.is c.before.parse_ascii.ensures) refl)
+    (λ c. off _ (came coord_res c.in-Refused.is c.before.parse_ascii.ensures)))

@@ -5,11 +5,11 @@ use Rattle.cursor.specs.declared.Next.TheVariants.{Line}
 use Rattle.cursor.proofs.Cursor.next.Statement.{statement}
 use Rattle.cursor.proofs.Cursor.next.Tie as tie
 
-taken : tie.Need-returns
+taken : tie.Need-returns-then-number-lt18446744073709551615
 unfolding next_of past
 taken c =
     first _ (and (yes≤ (omega arith)) (yes≤ (omega arith)))
-    (ap (λ (cut : Cut). Line cut (past c.before.before.before.before.args.self cut)) c.cut_at.ensures)
+    (ap (λ (cut : Cut). Line cut (past c.before.before.before.before.args.self cut)) c.cut_at-cut.ensures)
 
 pub next_spec : {M : Type 1} → statement M
 unfolding next_of

@@ -10,16 +10,16 @@ abbrev line : tie.Start → List ℕ
 line b = b.args.line.now
 
 -- past the tests the line is read by its qualifier and its station
-in_line_lem : (c : tie.Else3) {x : Res DRecord} → x ≡ read_station (line (search rules)) → x ≡ read_d (line (search rules))
+in_line_lem : (c : tie.Else-not-is_ascii) {x : Res DRecord} → x ≡ read_station (line (search rules)) → x ≡ read_d (line (search rules))
 unfolding read_d ascii ascii_in
 in_line_lem c h = pass _ (yes= (search rules)) (pass _ (yes= (search rules)) (pass _ (search (so_true)) h))
 
-qualifier : (c : tie.After-qualifier) → ok c.qualifier.given.0.0 ≡ qualifier_of (byte 1 (line (search rules)))
-qualifier c = came qualifier_res c.qualifier.given.1 c.before.before.from-letter.ensures
+qualifier : (c : tie.In-Ok) → ok c.in-Ok.qualifier ≡ qualifier_of (byte 1 (line (search rules)))
+qualifier c = came qualifier_res c.in-Ok.is c.before.from_letter.ensures
 
-no_qualifier : (c : tie.After-no-qualifier)
-    → no c.no-qualifier.given.0.0 ≡ qualifier_of (byte 1 (line (search rules)))
-no_qualifier c = came qualifier_res c.no-qualifier.given.1 c.before.before.from-letter.ensures
+no_qualifier : (c : tie.In-Refused)
+    → no c.in-Refused.no_qualifier ≡ qualifier_of (byte 1 (line (search rules)))
+no_qualifier c = came qualifier_res c.in-Refused.is c.before.from_letter.ensures
 
 pub parse_spec : {M : Type 1} → statement M
 unfolding read_d read_station ascii ascii_in

@@ -12,7 +12,7 @@ returns c =
     let qualifier = station.before.before.before.before in
     let letter = qualifier.before.before.before.before.before in
     rw qualifier.before.letter.ensures
-    at (then letter.put_byte.ensures (then qualifier.put-byte2.ensures station.put-part.ensures))
+    at (then letter.put_byte-at_qualifier.ensures (then qualifier.put_byte-at_station.ensures station.put_part.ensures))
 
 pub put_piece_spec : {M : Type 1} → statement M
 put_piece_spec =

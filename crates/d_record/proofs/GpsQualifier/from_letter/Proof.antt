@@ -9,6 +9,6 @@ unfolding qualifier_of qualifier_letter pick ◌=?◌
 from_letter_spec =
     tie.close
     (tie.spec
-    (λ c. ap qualifier_of (sym c.match.keys1))
-    (λ c. ap qualifier_of (sym c.match.keys2))
-    (λ c. second _ (no= c.match.rest.0.1) (second _ (no= c.match.rest.1) refl)))
+    (λ c. ap qualifier_of (sym c.in-49.is))
+    (λ c. ap qualifier_of (sym c.in-50.is))
+    (λ c. second _ (no= c.in_default.in_default-own.rest.0.1) (second _ (no= c.in_default.in_default-own.rest.1) refl)))

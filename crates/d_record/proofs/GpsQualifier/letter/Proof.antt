@@ -6,5 +6,5 @@ use Rattle.d_record.proofs.GpsQualifier.letter.Tie as tie
 pub letter_spec : {M : Type 1} → statement M
 unfolding qualifier_letter
 letter_spec =
-    tie.close (tie.spec (search rules) (search rules) (λ c. ap qualifier_letter (sym c.enum_told.given.1))
-    (λ c. ap qualifier_letter (sym c.enum-told2.given.1)))
+    tie.close (tie.spec (search rules) (search rules) (λ c. ap qualifier_letter (sym c.in-Gps.is))
+    (λ c. ap qualifier_letter (sym c.in-DGps.is)))

@@ -17,4 +17,4 @@ by_the_book_spec =
     (λ c. sym (fails _ (no≤ (search rules))))
     (λ c. sym (holds (yes≤ (search rules)) (fails _ (no≤ (search rules)))))
     (search rules)
-    (λ c. sym (holds (yes≤ (search rules)) (holds (yes≤ (search rules)) (known _ c.before.days-in.ensures)))))
+    (λ c. sym (holds (yes≤ (search rules)) (holds (yes≤ (search rules)) (known _ c.before.days_in.ensures)))))

@@ -4,8 +4,8 @@ use Rattle.date.specs.Date.{new_date, dated}
 use Rattle.date.proofs.Date.from_dmy.Statement.{statement}
 use Rattle.date.proofs.Date.from_dmy.Tie as tie
 
-day : (c : tie.Then1) → dated c.before.before.args.day c.before.before.args.month ≡ true
-day c = sym c.before.dated.ensures ∙ c.if1.true
+day : (c : tie.Then-dated) → dated c.before.before.args.day c.before.before.args.month ≡ true
+day c = sym c.before.dated.ensures ∙ c.if-dated.true
 
 pub from_dmy_spec : {M : Type 1} → statement M
 unfolding new_date
@@ -15,4 +15,4 @@ from_dmy_spec =
     (search rules)
     (λ c. pass _ (holds (day (search rules)) (yes≤ (search rules))) refl)
     (λ c. stop _ (holds (day (search rules)) (no≤ (search rules))))
-    (λ c. stop _ (fails _ (sym c.before.dated.ensures ∙ c.if1.false))))
+    (λ c. stop _ (fails _ (sym c.before.dated.ensures ∙ c.if-dated.false))))

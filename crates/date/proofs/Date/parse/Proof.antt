@@ -13,4 +13,4 @@ parse_spec =
     (search rules)
     (λ c. not_ascii _ _ _ (search rules) (search (so_false)))
     (search rules)
-    (λ c. c.parse-ascii.ensures ∙ field_of_ascii _ _ _ (search (so_true))))
+    (λ c. c.parse_ascii.ensures ∙ field_of_ascii _ _ _ (search (so_true))))

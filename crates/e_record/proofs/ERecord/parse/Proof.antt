@@ -10,18 +10,18 @@ use Rattle.e_record.proofs.ERecord.parse.Tie as tie
 abbrev line : tie.Start → List ℕ
 line b = b.args.line.now
 
-ascii : (c : tie.Else3) → is_ascii_of (cut 0 10 (line (search rules))) ≡ true
+ascii : (c : tie.Else-not-is_ascii) → is_ascii_of (cut 0 10 (line (search rules))) ≡ true
 unfolding cut
 ascii c = search (so_true)
 
-time : (c : tie.After-time) → ok c.time.given.0.0 ≡ columns 1 7 read_time_of (line (search rules))
+time : (c : tie.In-Ok) → ok c.in-Ok.time ≡ columns 1 7 read_time_of (line (search rules))
 unfolding columns cut
-time c = found_in _ (came time_res c.time.given.1 c.before.before.parse.ensures)
+time c = found_in _ (came time_res c.in-Ok.is c.before.parse.ensures)
 
 no_time : (c : tie.After-moved) → no c.moved.result ≡ columns 1 7 read_time_of (line (search rules))
 unfolding columns cut
-no_time c = refused_in _ (came time_res c.before.before.no-time.given.1
-    c.before.before.before.before.parse.ensures) c.moved.ensures
+no_time c = refused_in _ (came time_res c.before.in-Refused.is
+    c.before.before.parse.ensures) c.moved.ensures
 
 pub parse_spec : {M : Type 1} → statement M
 unfolding read_e ascii_in cut
@@ -37,6 +37,6 @@ parse_spec =
     (search rules)
     (λ c. pass _ (yes≤ (search rules))
     (pass _ (yes= (search rules))
-    (pass _ (ascii (search rules)) (on _ (time (search rules)) (rw c.from-column.ensures)))))
+    (pass _ (ascii (search rules)) (on _ (time (search rules)) (rw c.from_column.ensures)))))
     (λ c. pass _ (yes≤ (search rules))
     (pass _ (yes= (search rules)) (pass _ (ascii (search rules)) (off _ (no_time (search rules)))))))

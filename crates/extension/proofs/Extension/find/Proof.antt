@@ -10,13 +10,13 @@ use Rattle.extension.proofs.Extension.find.Tie as tie
 abbrev line : tie.Start → List ℕ
 line b = b.args.line.now
 
-rest : (c : tie.After-inside) → ok c.inside.given.0.0 ≡ find_part c.before.before.before.before.args.rest
+rest : (c : tie.In-At) → ok c.in-At.inside ≡ find_part c.before.before.before.args.rest
     (line (search rules))
-rest c = came found_res c.inside.given.1 c.before.before.find.ensures
+rest c = came found_res c.in-At.is c.before.find.ensures
 
-no_rest : (c : tie.After-no-rest) → no c.no-rest.given.0.0 ≡ find_part
-    c.before.before.before.before.args.rest (line (search rules))
-no_rest c = came found_res c.no-rest.given.1 c.before.before.find.ensures
+no_rest : (c : tie.In-Refused) → no c.in-Refused.no_rest ≡ find_part
+    c.before.before.before.args.rest (line (search rules))
+no_rest c = came found_res c.in-Refused.is c.before.find.ensures
 
 -- as the code works it out
 worked : (a base first last : ℕ) → base + 1 ≤ first → first ≤ last

@@ -8,28 +8,28 @@ use Rattle.extension.proofs.Extension.parse.Tie as tie
 abbrev text : tie.Start → List ℕ
 text b = b.args.text.now
 
-seven : (c : tie.Else1) → length (text (search rules)) ≡ 7
-seven c = c.if1.false
+seven : (c : tie.Else-text-ne-STRING_LENGTH) → length (text (search rules)) ≡ 7
+seven c = c.if-text-ne-STRING_LENGTH.false
 
-start : (c : tie.After-from) → ok c.from.given.0.0 ≡ columns 0 2 (read_nat_of 255) (text (search rules))
+start : (c : tie.In-Ok) → ok c.in-Ok.from ≡ columns 0 2 (read_nat_of 255) (text (search rules))
 unfolding columns cut
-start c = found_in _ (came u8_res c.from.given.1 c.before.before.read-u8.ensures)
+start c = found_in _ (came u8_res c.in-Ok.is c.before.read_u8.ensures)
 
 no_start : (c : tie.After-moved) → no c.moved.result ≡ columns 0 2 (read_nat_of 255) (text (search rules))
 unfolding columns cut
-no_start c = refused_in _ (came u8_res c.before.before.no_start.given.1
-    c.before.before.before.before.read-u8.ensures)
+no_start c = refused_in _ (came u8_res c.before.in-Refused.is
+    c.before.before.read_u8.ensures)
     c.moved.ensures
 
-end : (c : tie.After-to) → ok c.to.given.0.0 ≡ columns 2 4 (read_nat_of 255) (text (search rules))
+end : (c : tie.In-Ok-read_u8) → ok c.in-Ok-read_u8.to ≡ columns 2 4 (read_nat_of 255) (text (search rules))
 unfolding columns cut
-end c = found_in _ (came u8_res c.to.given.1 c.before.before.read-u82.ensures)
+end c = found_in _ (came u8_res c.in-Ok-read_u8.is c.before.read_u8-2.ensures)
 
-no_end : (c : tie.After-moved2) → no c.moved2.result ≡ columns 2 4 (read_nat_of 255) (text (search rules))
+no_end : (c : tie.After-moved-in-Refused-read_u8) → no c.moved-in-Refused-read_u8.result ≡ columns 2 4 (read_nat_of 255) (text (search rules))
 unfolding columns cut
-no_end c = refused_in _ (came u8_res c.before.before.no_end.given.1
-    c.before.before.before.before.read-u82.ensures)
-    c.moved2.ensures
+no_end c = refused_in _ (came u8_res c.before.in-Refused-read_u8.is
+    c.before.before.read_u8-2.ensures)
+    c.moved-in-Refused-read_u8.ensures
 
 pub parse_spec : {M : Type 1} → statement M
 unfolding read_extension read_definition

@@ -13,42 +13,42 @@ use Rattle.f_record.proofs.FRecord.parse.Tie as tie
 abbrev line : tie.Start → List ℕ
 line b = b.args.line.now
 
-even : (c : tie.Else2) → in_pairs (drop 7 (line (search rules))) ≡ true
+even : (c : tie.Else-line-ne0) → in_pairs (drop 7 (line (search rules))) ≡ true
 unfolding in_pairs
 even c = yes= (rw (length-drop 7 _) (search rules))
 
-plain : (c : tie.Else3) → is_ascii_of (line (search rules)) ≡ true
-plain c = so_true c.before.is_ascii.ensures c.if3.false
+plain : (c : tie.Else-not-is_ascii) → is_ascii_of (line (search rules)) ≡ true
+plain c = so_true c.before.is_ascii.ensures c.if-not-is_ascii.false
 
 -- past the tests the line is read by its time and its list
-in_line_lem : (c : tie.Else3) {x : Res FRecord} → x ≡ read_heard (line (search rules)) → x ≡ read_f (line (search rules))
+in_line_lem : (c : tie.Else-not-is_ascii) {x : Res FRecord} → x ≡ read_heard (line (search rules)) → x ≡ read_f (line (search rules))
 unfolding read_f ascii ascii_in
 in_line_lem c h = pass _ (yes≤ (search rules)) (pass _ (even (search rules)) (pass _ (plain c) h))
 
 -- in an ASCII line the field's own test says nothing
-time_read : (c : tie.After-parse-ascii) → time_res c.parse-ascii.result ≡ read_time_of (cut 1 7 (line (search rules)))
+time_read : (c : tie.After-parse_ascii) → time_res c.parse_ascii.result ≡ read_time_of (cut 1 7 (line (search rules)))
 unfolding cut time_in read_time_of
-time_read c = c.parse-ascii.ensures ∙ cut_of_ascii 1 7 6 _ _ (plain (search rules))
+time_read c = c.parse_ascii.ensures ∙ cut_of_ascii 1 7 6 _ _ (plain (search rules))
 
-time : (c : tie.After-time) → ok c.time.given.0.0 ≡ columns 1 7 read_time_of (line (search rules))
+time : (c : tie.In-Ok) → ok c.in-Ok.time ≡ columns 1 7 read_time_of (line (search rules))
 unfolding columns
-time c = found_in _ (came time_res c.time.given.1 (time_read (search rules)))
+time c = found_in _ (came time_res c.in-Ok.is (time_read (search rules)))
 
-no_time : (c : tie.After-moved2) → no c.moved2.result ≡ columns 1 7 read_time_of (line (search rules))
+no_time : (c : tie.After-moved-in-Refused) → no c.moved-in-Refused.result ≡ columns 1 7 read_time_of (line (search rules))
 unfolding columns
-no_time c = refused_in _ (came time_res c.before.before.no-time.given.1
-    (time_read (search rules))) c.moved2.ensures
+no_time c = refused_in _ (came time_res c.before.in-Refused.is
+    (time_read (search rules))) c.moved-in-Refused.ensures
 
-heard : (c : tie.After-satellites)
-    → ok c.satellites.given.0.0 ≡ columns 7 (length (line (search rules))) read_satellites (line (search rules))
+heard : (c : tie.In-Ok-parse)
+    → ok c.in-Ok-parse.satellites ≡ columns 7 (length (line (search rules))) read_satellites (line (search rules))
 unfolding columns cut
-heard c = found_in _ (came satellites_res c.satellites.given.1 c.before.before.parse.ensures)
+heard c = found_in _ (came satellites_res c.in-Ok-parse.is c.before.parse.ensures)
 
 no_list : (c : tie.After-moved)
     → no c.moved.result ≡ columns 7 (length (line (search rules))) read_satellites (line (search rules))
 unfolding columns cut
-no_list c = refused_in _ (came satellites_res c.before.before.no-list.given.1
-    c.before.before.before.before.parse.ensures) c.moved.ensures
+no_list c = refused_in _ (came satellites_res c.before.in-Refused-parse.is
+    c.before.before.parse.ensures) c.moved.ensures
 
 pub parse_spec : {M : Type 1} → statement M
 unfolding read_f read_heard in_pairs ascii ascii_in
@@ -64,6 +64,6 @@ parse_spec =
     (search rules) (search rules) (search rules) (search rules) (search rules) (search rules) (search rules)
     (search rules)
     (λ c. in_line_lem (search rules)
-    (on _ (time (search rules)) (on _ (heard (search rules)) (rw c.from-column.ensures))))
+    (on _ (time (search rules)) (on _ (heard (search rules)) (rw c.from_column.ensures))))
     (λ c. in_line_lem (search rules) (on _ (time (search rules)) (off _ (no_list (search rules)))))
     (λ c. in_line_lem (search rules) (off _ (no_time (search rules)))))

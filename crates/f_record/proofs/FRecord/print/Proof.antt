@@ -15,25 +15,25 @@ abbrev self : tie.Start → FRecord
 self b = b.args.self
 
 -- the list is found, so there is a text
-text : (c : tie.After--inside)
+text : (c : tie.In-At)
     → ok (f_body (self (search rules)) (part_bytes (self (search rules)).list (line (search rules))))
     ≡ f_text (self (search rules)) (line (search rules))
 unfolding f_text part_text
-text c = on _ (text_found _ (came found_res c.-inside.given.1 c.before.before.find.ensures)) refl
+text c = on _ (text_found _ (came found_res c.in-At.is c.before.find.ensures)) refl
 
-outside : tie.Need-returns-2
+outside : tie.Need-returns-in-Refused
 unfolding f_text part_text text_of
 outside c =
-    refused _ (off _ (off _ (came found_res c.before.no.given.1 c.before.before.before.find.ensures)))
+    refused _ (off _ (off _ (came found_res c.in-Refused.is c.before.find.ensures)))
 
 pub print_spec : {M : Type 1} → statement M
 print_spec =
     tie.close
     (tie.spec
     (search rules) (search rules) (search rules) (search rules) (search rules)
-    (λ c. no_room (text (search rules)) c.before.before.put-piece.ensures (search rules))
+    (λ c. no_room (text (search rules)) c.before.before.put_piece.ensures (search rules))
     (search rules)
     outside
     (search rules)
-    (λ c. written (text (search rules)) c.before.before.before.before.before.before.put-piece.ensures
-    (search rules) c.before.before.put-piece2.ensures))
+    (λ c. written (text (search rules)) c.before.before.before.before.before.before.put_piece.ensures
+    (search rules) c.before.before.put_piece-in-At.ensures))

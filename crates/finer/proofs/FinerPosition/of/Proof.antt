@@ -10,5 +10,5 @@ of_spec =
     tie.close
     (tie.spec
     (search rules) (search rules)
-    (λ c κs. (look_lies _ _ _ _ _ c.before.find.ensures, look_lies _ _ _ _ _ c.find2.ensures))
-    (λ c. rw (c.position-by.ensures, c.before.before.find.ensures, c.before.find2.ensures)))
+    (λ c κs. (look_lies _ _ _ _ _ c.before.find-lad.ensures, look_lies _ _ _ _ _ c.find-lod.ensures))
+    (λ c. rw (c.position_by.ensures, c.before.before.find-lad.ensures, c.before.find-lod.ensures)))

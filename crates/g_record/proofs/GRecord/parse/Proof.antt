@@ -11,4 +11,4 @@ parse_spec =
     (search rules)
     (λ c. stop _ (search (so_false)))
     (search rules)
-    (λ c. pass _ (search (so_true)) (rw c.from-column.ensures)))
+    (λ c. pass _ (search (so_true)) (rw c.from_column.ensures)))

@@ -9,7 +9,7 @@ to_byte_spec =
     tie.close
     (tie.spec
     (search rules) (search rules) (search rules) (search rules)
-    (λ c. ap source_byte (sym c.enum_told.given.1))
-    (λ c. ap source_byte (sym c.enum-told2.given.1))
-    (λ c. ap source_byte (sym c.enum-told3.given.1))
-    (λ c. ap source_byte (sym c.before.self.given.1)))
+    (λ c. ap source_byte (sym c.in-FVU.is))
+    (λ c. ap source_byte (sym c.in-OfficialObserver.is))
+    (λ c. ap source_byte (sym c.in-Pilot.is))
+    (λ c. ap source_byte (sym c.in-Unrecognized.is)))

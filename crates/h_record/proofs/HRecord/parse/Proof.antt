@@ -11,13 +11,13 @@ abbrev line : tie.Start → List ℕ
 line b = b.args.line.now
 
 -- past the tests the record is the one that the colon names
-made : (c : tie.After-colon) {r : HRecord} → r ≡ named (line (search rules)) c.colon.result →
+made : (c : tie.After-colon-c) {r : HRecord} → r ≡ named (line (search rules)) c.colon-c.result →
     ok r ≡ read_h (line (search rules))
 unfolding read_h ascii_in cut
 made c h = pass _ (yes≤ (search rules))
-    (pass _ (yes= (search rules)) (pass _ (search (so_true)) (rw (h, c.colon.ensures))))
+    (pass _ (yes= (search rules)) (pass _ (search (so_true)) (rw (h, c.colon-c.ensures))))
 
-add_from_column : tie.Need-overflow-add-from-column
+add_from_column : tie.Need-overflow_add-c
 add_from_column c = record { fits = omega (arith, colon_inside 5 (line (search rules)) (search rules)) }
 
 pub parse_spec : {M : Type 1} → statement M
@@ -32,9 +32,9 @@ parse_spec =
     (λ c. pass _ (yes≤ (search rules)) (pass _ (yes= (search rules)) (stop _ (search (so_false)))))
     (search rules) (search rules) (search rules) (search rules)
     (λ c. made (search rules)
-    (first _ (yes= (search rules)) (rw (c.from-column.ensures, c.before.before.before.from_byte.ensures))))
+    (first _ (yes= (search rules)) (rw (c.from_column.ensures, c.before.before.before.from_byte-data_source.ensures))))
     (search rules)
     add_from_column
     (search rules)
     (λ c. made (search rules)
-    (second _ (no= (search rules)) (rw (c.from-column2.ensures, c.before.before.before.from_byte.ensures)))))
+    (second _ (no= (search rules)) (rw (c.from_column-2.ensures, c.before.before.before.from_byte-data_source.ensures)))))

@@ -18,42 +18,42 @@ second b = find_maybe b.args.self.friendly_name (b.args.line.now)
 abbrev third : tie.Start → Res Part
 third b = find_part b.args.self.«data» (b.args.line.now)
 
-mnemonic : (c : tie.After--mnemonic) → ok c.-mnemonic.given.0.0 ≡ first (search rules)
-mnemonic c = came found_res c.-mnemonic.given.1 c.before.before.find.ensures
+mnemonic : (c : tie.In-At) → ok c.in-At._mnemonic ≡ first (search rules)
+mnemonic c = came found_res c.in-At.is c.before.find.ensures
 
-no_mnemonic : (c : tie.After-no-mnemonic) → no c.no-mnemonic.given.0.0 ≡ first (search rules)
-no_mnemonic c = came found_res c.no-mnemonic.given.1 c.before.before.find.ensures
+no_mnemonic : (c : tie.In-Refused) → no c.in-Refused.no_mnemonic ≡ first (search rules)
+no_mnemonic c = came found_res c.in-Refused.is c.before.find.ensures
 
-name : (c : tie.After--name) → ok c.-name.given.0.0 ≡ second (search rules)
-name c = came found_res c.-name.given.1 c.before.before.find2.ensures
+name : (c : tie.In-At-find) → ok c.in-At-find._name ≡ second (search rules)
+name c = came found_res c.in-At-find.is c.before.find-in-At.ensures
 
-no_name : (c : tie.After-no-name) → no c.no_name.given.0.0 ≡ second (search rules)
-no_name c = came found_res c.no_name.given.1 c.before.before.find2.ensures
+no_name : (c : tie.In-Refused-find) → no c.in-Refused-find.no_name ≡ second (search rules)
+no_name c = came found_res c.in-Refused-find.is c.before.find-in-At.ensures
 
-rest : (c : tie.After--data) → ok c.-data.given.0.0 ≡ third (search rules)
-rest c = came found_res c.-data.given.1 c.before.before.find3.ensures
+rest : (c : tie.In-At-find-2) → ok c.in-At-find-2._data ≡ third (search rules)
+rest c = came found_res c.in-At-find-2.is c.before.find-in-At-find.ensures
 
-no_rest : (c : tie.After-no-data) → no c.no-data.given.0.0 ≡ third (search rules)
-no_rest c = came found_res c.no-data.given.1 c.before.before.find3.ensures
+no_rest : (c : tie.In-Refused-find-2) → no c.in-Refused-find-2.no_data ≡ third (search rules)
+no_rest c = came found_res c.in-Refused-find-2.is c.before.find-in-At-find.ensures
 
-full : tie.Need-returns
+full : tie.Need-returns-then-buf-put_piece
 unfolding h_text part_text maybe_text
 full c =
     no_room
     (on _ (text_found _ (mnemonic (search rules)))
     (on _ (text_found _ (name (search rules))) (on _ (text_found _ (rest (search rules))) refl)))
-    c.before.before.put-piece.ensures
+    c.before.before.put_piece.ensures
     (search rules)
 
-fits : tie.Need-returns-5
+fits : tie.Need-returns-else-buf-put_piece
 unfolding h_text part_text maybe_text
 fits c =
     written
     (on _ (text_found _ (mnemonic (search rules)))
     (on _ (text_found _ (name (search rules))) (on _ (text_found _ (rest (search rules))) refl)))
-    c.before.before.before.before.before.before.put-piece.ensures
+    c.before.before.before.before.before.before.put_piece.ensures
     (search rules)
-    c.before.before.put-piece2.ensures
+    c.before.before.put_piece-in-At-find-2.ensures
 
 pub print_spec : {M : Type 1} → statement M
 unfolding h_text part_text maybe_text text_of

@@ -12,9 +12,9 @@ returns c =
     let m = d.before.before.before.before in
     let s = m.before.before.before.before in
     let h = s.before.before.before.before.before in
-    then h.put_byte.ensures
-    (then (rw s.before.to-byte.ensures at s.put-char.ensures)
-    (then m.put-part.ensures d.put-data.ensures))
+    then h.put_byte-at_first.ensures
+    (then (rw s.before.to_byte.ensures at s.put_char-at_second.ensures)
+    (then m.put_part-at_third.ensures d.put_data.ensures))
 
 pub put_piece_spec : {M : Type 1} → statement M
 put_piece_spec =

@@ -9,5 +9,5 @@ after_spec =
     tie.close
     (tie.spec
     (search rules) (search rules)
-    (λ c. first _ (sym c.before.before.begins.ensures ∙ c.before.if1.true) c.set-by.ensures)
-    (λ c. second _ (sym c.before.begins.ensures ∙ c.if1.false) refl))
+    (λ c. first _ (sym c.before.before.begins.ensures ∙ c.before.if-begins.true) c.set_by.ensures)
+    (λ c. second _ (sym c.before.begins.ensures ∙ c.if-begins.false) refl))

@@ -14,10 +14,10 @@ by_slot : (h : Held) {s : Slot} → h.slot ≡ s → in_force s h.table ≡ in_f
 by_slot h e = ap (λ s. in_force s h.table) (sym e)
 
 -- the table is in force
-set : (c : tie.After-enum-told3) →
+set : (c : tie.In-Set) →
     ok (self (search rules)).table ≡ in_force (self (search rules)).slot (self (search rules)).table
 unfolding in_force
-set c = by_slot (self (search rules)) c.enum-told3.given.1
+set c = by_slot (self (search rules)) c.in-Set.is
 
 pub define_spec : {M : Type 1} → statement M
 unfolding define in_force
@@ -27,6 +27,6 @@ define_spec =
     (search rules) (search rules) (search rules)
     (λ c. on _ (set (search rules)) (stop _ (no≤ (search rules))))
     (search rules)
-    (λ c. off _ (by_slot (self (search rules)) c.enum_told.given.1))
-    (λ c. off _ (by_slot (self (search rules)) c.enum-told2.given.1))
-    (λ c. on _ (set (search rules)) (pass _ (yes≤ (search rules)) c.first-named.ensures)))
+    (λ c. off _ (by_slot (self (search rules)) c.in-Never.is))
+    (λ c. off _ (by_slot (self (search rules)) c.in-Spoiled.is))
+    (λ c. on _ (set (search rules)) (pass _ (yes≤ (search rules)) c.first_named.ensures)))

@@ -10,6 +10,6 @@ find_spec =
     tie.close
     (tie.spec
     (search rules) (search rules) (search rules) (search rules)
-    (λ c. on _ (came extension_res c.before.before.extension.given.1
-    c.before.before.before.before.define.ensures) c.find.ensures)
-    (λ c. off _ (came extension_res c.before.no-definition.given.1 c.before.before.before.define.ensures)))
+    (λ c. on _ (came extension_res c.before.in-Ok.is
+    c.before.before.define.ensures) c.find.ensures)
+    (λ c. off _ (came extension_res c.in-Refused.is c.before.define.ensures)))

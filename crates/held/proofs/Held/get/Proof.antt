@@ -6,15 +6,15 @@ use Rattle.held.specs.Held.{look_up}
 use Rattle.held.proofs.Held.get.Statement.{statement}
 use Rattle.held.proofs.Held.get.Tie as tie
 
-found : tie.Need-returns
+found : tie.Need-returns-in-Ok
 unfolding look_up bind
-found c = rw (sym (came extension_res c.before.before.extension.given.1
-    c.before.before.before.before.define.ensures)) c.get-extension.ensures
+found c = rw (sym (came extension_res c.before.in-Ok.is
+    c.before.before.define.ensures)) c.get_extension.ensures
 
-refused : tie.Need-returns-2
+refused : tie.Need-returns-in-Refused
 unfolding look_up bind shown bytes_of
-refused c = rw (sym (came extension_res c.before.before.-no.given.1
-    c.before.before.before.before.define.ensures)) (record { bytes = refl; lies = refl })
+refused c = rw (sym (came extension_res c.before.in-Refused.is
+    c.before.before.define.ensures)) (record { bytes = refl; lies = refl })
 
 pub get_spec : {M : Type 1} → statement M
 get_spec =

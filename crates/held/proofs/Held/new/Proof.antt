@@ -5,4 +5,4 @@ use Rattle.held.proofs.Held.new.Tie as tie
 
 pub new_spec : {M : Type 1} → statement M
 unfolding no_table
-new_spec = tie.close (tie.spec (search rules) (λ c. rw c.new.ensures))
+new_spec = tie.close (tie.spec (search rules) (λ c. rw c.new-table.ensures))

@@ -30,6 +30,6 @@ set_by_spec =
     tie.close
     (tie.spec
     (search rules) (search rules) (search rules)
-    (λ c. ap (keep _) (sym c.enum_told.given.1) ∙ kept _ c.before.before.before.parse.ensures)
-    (λ c. ap (keep _) (sym c.before.verdict.given.1)
-    ∙ kept _ c.before.before.before.before.parse.ensures))
+    (λ c. ap (keep _) (sym c.in-Accepted.is) ∙ kept _ c.before.before.parse-read.ensures)
+    (λ c. ap (keep _) (sym c.in-Refused.is)
+    ∙ kept _ c.before.before.parse-read.ensures))

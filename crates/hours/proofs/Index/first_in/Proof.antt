@@ -7,10 +7,10 @@ use Rattle.hours.specs.declared.Hour.{Hour}
 use Rattle.hours.proofs.Index.first_in.Statement.{statement}
 use Rattle.hours.proofs.Index.first_in.Tie as tie
 
-none : tie.Need-returns-2
+none : tie.Need-returns
 unfolding held_for held
 none c =
-    let hours = c.before.args.t1.hours in
+    let hours = c.before.args.self.hours in
     let n : length hours ≡ 25 = search (rules, long_under) in
     ap (λ (x : Hour). x.first) (sym (get_or-eq_default hours _ (omega arith)))
 

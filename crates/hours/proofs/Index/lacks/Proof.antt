@@ -3,17 +3,17 @@ use Rattle.hours.specs.Hours.{is_nowhere, lacks}
 use Rattle.hours.proofs.Index.lacks.Statement.{statement}
 use Rattle.hours.proofs.Index.lacks.Tie as tie
 
-free : tie.Need-returns
+free : tie.Need-returns-in-Nowhere
 unfolding lacks is_nowhere
 free c =
-    let held = c.before.before.first-in in
-    sym (holds (yes≤ (search rules)) (ap is_nowhere (sym held.ensures ∙ c.enum_told.given.1)))
+    let held = c.before.first_in in
+    sym (holds (yes≤ (search rules)) (ap is_nowhere (sym held.ensures ∙ c.in-Nowhere.is)))
 
-taken : tie.Need-returns-2
+taken : tie.Need-returns-in-At
 unfolding lacks is_nowhere
 taken c =
-    let held = c.before.before.first-in in
-    sym (holds (yes≤ (search rules)) (ap is_nowhere (sym held.ensures ∙ c.enum-told2.given.1)))
+    let held = c.before.first_in in
+    sym (holds (yes≤ (search rules)) (ap is_nowhere (sym held.ensures ∙ c.in-At.is)))
 
 pub lacks_spec : {M : Type 1} → statement M
 unfolding lacks

@@ -5,4 +5,4 @@ use Rattle.k_record.proofs.KRecord.by_the_book.Tie as tie
 
 pub by_the_book_spec : {M : Type 1} → statement M
 unfolding k_book
-by_the_book_spec = tie.close (tie.spec (search rules) (λ c. c.by-the-book.ensures))
+by_the_book_spec = tie.close (tie.spec (search rules) (λ c. c.by_the_book.ensures))

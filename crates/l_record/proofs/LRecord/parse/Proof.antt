@@ -17,4 +17,4 @@ parse_spec =
     (λ c. pass _ (yes≤ (search rules)) (pass _ (yes= (search rules)) (stop _ (search (so_false)))))
     (search rules)
     (λ c. pass _ (yes≤ (search rules))
-    (pass _ (yes= (search rules)) (pass _ (search (so_true)) (rw c.from-column.ensures)))))
+    (pass _ (yes= (search rules)) (pass _ (search (so_true)) (rw c.from_column.ensures)))))

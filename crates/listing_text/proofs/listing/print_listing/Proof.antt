@@ -1,4 +1,3 @@
-
 use Rattle.text.proofs.Prelude.{rules, arith, refl, sym, ◌∙◌, is≤}
 use Rattle.print.proofs.Printing.{no_room, written}
 use Rattle.listing_text.proofs.Room.{has_room}

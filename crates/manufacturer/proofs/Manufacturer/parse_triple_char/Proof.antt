@@ -10,26 +10,26 @@ use Rattle.manufacturer.proofs.Manufacturer.parse_triple_char.Tie as tie
 abbrev test : Mnemonic → Manufacturer → Bool
 test t m = is_triple t (triple_of m)
 
-abbrev invariant-loop : tie.invariant-loop
+abbrev invariant-loop : tie.invariant-loop-place
 invariant-loop triple wanted place₀ place = first_of (test triple) (Manufacturer.UnknownTriple triple) (drop place known)
     ≡ triple_maker triple
 
-abbrev decreases-loop : tie.decreases-loop
+abbrev decreases-loop : tie.decreases-loop-place
 decreases-loop triple wanted place₀ place = 23 - place
 
-returns : tie.Need-returns invariant-loop decreases-loop
-returns c = let s = c.before.before.before in let l = s.before.before.loop in
+returns : tie.Need-returns-then-number-wanted invariant-loop decreases-loop
+returns c = let s = c.before.before.before in let l = s.before.before.loop-place in
     first _
-    (triple_found _ s.listed.ensures.1 (search rules) (search rules) (search rules) (search rules) (cc)) refl
-    ∙ turn (test _) _ l.place (search rules) s.listed.ensures.0 ∙ l.invariant
+    (triple_found _ s.listed-row.ensures.1 (search rules) (search rules) (search rules) (search rules) (cc)) refl
+    ∙ turn (test _) _ l.place (search rules) s.listed-row.ensures.0 ∙ l.invariant
 
-loop-again : tie.Need-loop-preserved invariant-loop decreases-loop
-loop-again c = let s = c.before.before.before in let l = s.before.before.loop in
-    second _ (triple_passed _ s.listed.ensures.1 (λ e. c.if1.false (cc))) refl
-    ∙ turn (test _) _ l.place (search rules) s.listed.ensures.0 ∙ l.invariant
+loop-again : tie.Need-loop-place-preserved invariant-loop decreases-loop
+loop-again c = let s = c.before.before.before in let l = s.before.before.loop-place in
+    second _ (triple_passed _ s.listed-row.ensures.1 (λ e. c.if-number-wanted.false (cc))) refl
+    ∙ turn (test _) _ l.place (search rules) s.listed-row.ensures.0 ∙ l.invariant
 
-returns-2 : tie.Need-returns-2 invariant-loop decreases-loop
-returns-2 c = let l = c.before.loop in ended (test _) _ l.place (search rules) ∙ l.invariant
+returns-2 : tie.Need-returns invariant-loop decreases-loop
+returns-2 c = let l = c.before.loop-place in ended (test _) _ l.place (search rules) ∙ l.invariant
 
 pub parse_triple_char_spec : {M : Type 1} → statement M
 unfolding triple_maker

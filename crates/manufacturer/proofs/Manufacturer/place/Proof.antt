@@ -17,5 +17,5 @@ place_spec =
     (λ c. search rules) (λ c. search rules) (λ c. search rules) (λ c. search rules) (λ c. search rules)
     (λ c. search rules) (λ c. search rules) (λ c. search rules) (λ c. search rules) (λ c. search rules)
     (λ c. search rules) (λ c. search rules) (λ c. search rules)
-    (λ c. absurd (c.before.before.requires.0 _ c.enum-told24.given.1))
-    (λ c. absurd (c.before.before.requires.1 _ c.enum-told25.given.1)))
+    (λ c. absurd (c.before.requires.0 _ c.in-UnknownSingle.is))
+    (λ c. absurd (c.before.requires.1 _ c.in-UnknownTriple.is)))

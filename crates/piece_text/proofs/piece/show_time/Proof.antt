@@ -5,4 +5,4 @@ use Rattle.piece_text.proofs.piece.show_time.Tie as tie
 
 pub show_time_spec : {M : Type 1} → statement M
 unfolding time_shown
-show_time_spec = tie.close (tie.spec (search rules) (search rules) (λ c. c.before.before.show-three.ensures))
+show_time_spec = tie.close (tie.spec (search rules) (search rules) (λ c. c.before.before.show_three.ensures))

@@ -10,4 +10,4 @@ asked_count_spec =
     (tie.spec
     (λ c. sym (in_threes _) ∙ ap length (given _ _ (omega arith)))
     (search rules)
-    (λ c. c.table-count.ensures ∙ ap length (of_table _ _ (omega arith))))
+    (λ c. c.table_count.ensures ∙ ap length (of_table _ _ (omega arith))))

@@ -4,16 +4,16 @@ use Rattle.piece_text.specs.Value.{found_text}
 use Rattle.piece_text.proofs.value.put_found.Statement.{statement}
 use Rattle.piece_text.proofs.value.put_found.Tie as tie
 
-at : tie.Need-returns
+at : tie.Need-returns-in-At
 unfolding found_text
-at c = let e : tie.After-found = search rules in rw e.found.given.1 (search (then))
+at c = let e : tie.In-At = search rules in rw e.in-At.is (search (then))
 
-refused : tie.Need-returns-2
+refused : tie.Need-returns-in-Refused
 unfolding found_text
 refused c =
-    let e : tie.After-found2 = search rules in
+    let e : tie.In-Refused = search rules in
     let n : tie.After-number = search rules in
-    rw (e.found2.given.1, ← n.number.ensures) c.before.before.put-nat.ensures
+    rw (e.in-Refused.is, ← n.number.ensures) c.before.before.put_nat.ensures
 
 pub put_found_spec : {M : Type 1} → statement M
 put_found_spec =

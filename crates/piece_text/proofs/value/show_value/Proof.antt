@@ -12,9 +12,9 @@ returns c =
     let sign = found.before.before.before.before in
     let name = sign.before.before.before.before in
     let space = name.before.before.before.before in
-    rw space.before.before.find.ensures
-    at (then space.put_byte.ensures
-    (then name.put.ensures (then sign.put-byte2.ensures found.put-found.ensures)))
+    rw space.before.before.find-found.ensures
+    at (then space.put_byte-at_first.ensures
+    (then name.put-at_sign.ensures (then sign.put_byte-at_answer.ensures found.put_found.ensures)))
 
 pub show_value_spec : {M : Type 1} → statement M
 show_value_spec =

@@ -9,32 +9,32 @@ use Rattle.piece_text.proofs.value.show_values.Statement.{statement}
 use Rattle.piece_text.proofs.value.show_values.Tie as tie
 
 -- the values of the first i names are written
-abbrev invariant-loop : tie.invariant-loop
+abbrev invariant-loop : tie.invariant-loop-i
 invariant-loop buf₀ at held base rest names line n end₀ i₀ buf end i =
     (i ≤ n) × Wrote buf₀ at (texts (value_shown base held rest line) (take i (asked_for held names))) buf end
 
-abbrev decreases-loop : tie.decreases-loop
+abbrev decreases-loop : tie.decreases-loop-i
 decreases-loop buf₀ at held base rest names line n end₀ i₀ buf end i = n - i
 
-starts : tie.Need-loop-init invariant-loop decreases-loop
+starts : tie.Need-loop-i-init invariant-loop decreases-loop
 unfolding texts
 starts c = (omega arith, wrote_nothing _ _ (omega arith) (omega arith))
 
-again : tie.Need-loop-preserved invariant-loop decreases-loop
+again : tie.Need-loop-i-preserved invariant-loop decreases-loop
 again c =
     let value = c.before.before in
     let name = value.before.before in
     let o = name.before.before in
     let a = o.before.before.before.before.before.args in (
       omega arith,
-      in_turn _ (asked_for a.held (a.names.now)) o.loop.i name.asked-at.ensures
-          o.loop.invariant.1 value.show-value.ensures,
+      in_turn _ (asked_for a.held (a.names.now)) o.loop-i.i name.asked_at-name.ensures
+          o.loop-i.invariant.1 value.show_value-end.ensures,
     )
 
 ends : tie.Need-returns invariant-loop decreases-loop
 ends c =
     let a = c.before.before.before.before.before.before.args in
-    rw (take_all c.before.loop.i (asked_for a.held (a.names.now)) (omega arith)) at c.before.loop.invariant.1
+    rw (take_all c.before.loop-i.i (asked_for a.held (a.names.now)) (omega arith)) at c.before.loop-i.invariant.1
 
 pub show_values_spec : {M : Type 1} → statement M
 show_values_spec =
@@ -46,5 +46,5 @@ show_values_spec =
     starts
     (search rules) (search rules) (search rules) (search rules)
     again
-    (λ c. wrote_length c.before.loop.invariant.1)
+    (λ c. wrote_length c.before.loop-i.invariant.1)
     ends)

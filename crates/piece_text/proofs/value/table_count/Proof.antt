@@ -10,6 +10,6 @@ table_count_spec =
     tie.close
     (tie.spec
     (search rules) (search rules) (search rules) (search rules)
-    (λ c. sym (no_names _ (rw c.enum_told.given.1)))
-    (λ c. sym (no_names _ (rw c.enum-told2.given.1)))
-    (λ c. c.definition-count.ensures ∙ sym (count_names _ (rw c.before.enum-told3.given.1))))
+    (λ c. sym (no_names _ (rw c.in-Never.is)))
+    (λ c. sym (no_names _ (rw c.in-Spoiled.is)))
+    (λ c. c.definition_count.ensures ∙ sym (count_names _ (rw c.before.in-Set.is))))

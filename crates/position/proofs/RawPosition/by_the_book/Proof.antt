@@ -10,5 +10,5 @@ by_the_book_spec =
     tie.close
     (tie.spec
     (search rules) (search rules)
-    (λ c. first _ (sym c.before.before.by-the-book.ensures ∙ c.before.if1.true) c.by-the-book2.ensures)
-    (λ c. second _ (sym c.before.by-the-book.ensures ∙ c.if1.false) refl))
+    (λ c. first _ (sym c.before.before.before.by_the_book.ensures ∙ c.before.before.if-by_the_book.true) c.by_the_book-then-by_the_book.ensures)
+    (λ c. second _ (sym c.before.by_the_book.ensures ∙ c.if-by_the_book.false) refl))

@@ -9,25 +9,25 @@ use Rattle.position.proofs.RawPosition.parse_ascii.Tie as tie
 abbrev text : tie.Start → List ℕ
 text b = b.args.text.now
 
-lat : (c : tie.After-north) → ok c.north.given.0.0 ≡ columns 0 8 latitude_in (text (search rules))
+lat : (c : tie.In-Ok) → ok c.in-Ok.north ≡ columns 0 8 latitude_in (text (search rules))
 unfolding columns cut
-lat c = found_in _ (came latitude_res c.north.given.1 c.before.before.parse-ascii.ensures)
+lat c = found_in _ (came latitude_res c.in-Ok.is c.before.parse_ascii.ensures)
 
 no_lat : (c : tie.After-moved) → no c.moved.result ≡ columns 0 8 latitude_in (text (search rules))
 unfolding columns cut
-no_lat c = refused_in _ (came latitude_res c.before.before.no-lat.given.1
-    c.before.before.before.before.parse-ascii.ensures)
+no_lat c = refused_in _ (came latitude_res c.before.in-Refused.is
+    c.before.before.parse_ascii.ensures)
     c.moved.ensures
 
-lon : (c : tie.After-lon) → ok c.lon.given.0.0 ≡ columns 8 17 longitude_in (text (search rules))
+lon : (c : tie.In-Ok-parse_ascii) → ok c.in-Ok-parse_ascii.lon ≡ columns 8 17 longitude_in (text (search rules))
 unfolding columns cut
-lon c = found_in _ (came longitude_res c.lon.given.1 c.before.before.parse-ascii2.ensures)
+lon c = found_in _ (came longitude_res c.in-Ok-parse_ascii.is c.before.parse_ascii-2.ensures)
 
-no_lon : (c : tie.After-moved2) → no c.moved2.result ≡ columns 8 17 longitude_in (text (search rules))
+no_lon : (c : tie.After-moved-in-Refused-parse_ascii) → no c.moved-in-Refused-parse_ascii.result ≡ columns 8 17 longitude_in (text (search rules))
 unfolding columns cut
-no_lon c = refused_in _ (came longitude_res c.before.before.no-lon.given.1
-    c.before.before.before.before.parse-ascii2.ensures)
-    c.moved2.ensures
+no_lon c = refused_in _ (came longitude_res c.before.in-Refused-parse_ascii.is
+    c.before.before.parse_ascii-2.ensures)
+    c.moved-in-Refused-parse_ascii.ensures
 
 pub parse_ascii_spec : {M : Type 1} → statement M
 unfolding position_in sized read_both

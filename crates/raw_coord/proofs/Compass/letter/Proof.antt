@@ -9,7 +9,7 @@ letter_spec =
     tie.close
     (tie.spec
     (search rules) (search rules) (search rules) (search rules)
-    (λ c. ap compass_letter (sym c.enum_told.given.1))
-    (λ c. ap compass_letter (sym c.enum-told2.given.1))
-    (λ c. ap compass_letter (sym c.enum-told3.given.1))
-    (λ c. ap compass_letter (sym c.enum-told4.given.1)))
+    (λ c. ap compass_letter (sym c.in-North.is))
+    (λ c. ap compass_letter (sym c.in-South.is))
+    (λ c. ap compass_letter (sym c.in-East.is))
+    (λ c. ap compass_letter (sym c.in-West.is)))

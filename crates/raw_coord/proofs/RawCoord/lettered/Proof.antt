@@ -9,6 +9,6 @@ lettered_spec =
     tie.close
     (tie.spec
     (search rules) (search rules) (search rules) (search rules)
-    (λ c. on _ (came compass_res c.before.before.sign.given.1
-    c.before.before.before.before.sign_of.ensures) c.within.ensures)
-    (λ c. off _ (came compass_res c.before.no_sign.given.1 c.before.before.before.sign_of.ensures)))
+    (λ c. on _ (came compass_res c.before.in-Ok.is
+    c.before.before.sign_of.ensures) c.within.ensures)
+    (λ c. off _ (came compass_res c.in-Refused.is c.before.sign_of.ensures)))

@@ -10,8 +10,8 @@ new_spec =
     (tie.spec
     (search rules)
     (λ c. pass _ (holds (yes≤ (search rules))
-    (holds (yes≤ (search rules)) (sym c.before.one_of_lem.ensures ∙ c.if3.true))) refl)
+    (holds (yes≤ (search rules)) (sym c.before.one_of.ensures ∙ c.if-one_of.true))) refl)
     (λ c. stop _ (holds (yes≤ (search rules))
-    (holds (yes≤ (search rules)) (sym c.before.one_of_lem.ensures ∙ c.if3.false))))
+    (holds (yes≤ (search rules)) (sym c.before.one_of.ensures ∙ c.if-one_of.false))))
     (λ c. stop _ (holds (yes≤ (search rules)) (fails _ (no≤ (search rules)))))
     (λ c. stop _ (fails _ (no≤ (search rules)))))

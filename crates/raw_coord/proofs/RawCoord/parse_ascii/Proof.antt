@@ -20,28 +20,28 @@ abbrev AsLong : tie.Start → Type 0
 AsLong b = length (text b) ≡ b.args.d + 6
 
 -- a text that passes both tests is as long as it must be
-long : (c : tie.Else2) → AsLong (search rules)
+long : (c : tie.Else-text-d) → AsLong (search rules)
 long c = omega arith
 
-degrees : (c : tie.After-whole) → ok c.whole.given.0.0 ≡ whole (search rules)
+degrees : (c : tie.In-Ok) → ok c.in-Ok.whole ≡ whole (search rules)
 unfolding columns cut
-degrees c = found_in _ (came u8_res c.whole.given.1 c.before.before.read-u8.ensures)
+degrees c = found_in _ (came u8_res c.in-Ok.is c.before.read_u8.ensures)
 
 no_degrees : (c : tie.After-moved) → no c.moved.result ≡ whole (search rules)
 unfolding columns cut
-no_degrees c = refused_in _ (came u8_res c.before.before.no-degrees.given.1
-    c.before.before.before.before.read-u8.ensures)
+no_degrees c = refused_in _ (came u8_res c.before.in-Refused.is
+    c.before.before.read_u8.ensures)
     c.moved.ensures
 
-thousandths : (c : tie.After-small) → ok c.small.given.0.0 ≡ small (search rules)
+thousandths : (c : tie.In-Ok-read_u16) → ok c.in-Ok-read_u16.small ≡ small (search rules)
 unfolding columns cut
-thousandths c = found_in _ (came u16_res c.small.given.1 c.before.before.read-u16.ensures)
+thousandths c = found_in _ (came u16_res c.in-Ok-read_u16.is c.before.read_u16.ensures)
 
-no_thousandths : (c : tie.After-moved2) → no c.moved2.result ≡ small (search rules)
+no_thousandths : (c : tie.After-moved-in-Refused-read_u16) → no c.moved-in-Refused-read_u16.result ≡ small (search rules)
 unfolding columns cut
-no_thousandths c = refused_in _ (came u16_res c.before.before.no-thousandths.given.1
-    c.before.before.before.before.read-u16.ensures)
-    c.moved2.ensures
+no_thousandths c = refused_in _ (came u16_res c.before.in-Refused-read_u16.is
+    c.before.before.read_u16.ensures)
+    c.moved-in-Refused-read_u16.ensures
 
 pub parse_ascii_spec : {M : Type 1} → statement M
 unfolding sized read_coord

@@ -11,7 +11,7 @@ to_f32_spec =
     tie.close
     (tie.spec
     (search rules) (search rules) (search rules) (search rules) (search rules) (search rules)
-    (λ c. by_sign_lem binary32 _ c.enum_told.given.1)
-    (λ c. by_sign_lem binary32 _ c.enum-told2.given.1)
-    (λ c. by_sign_lem binary32 _ c.enum-told3.given.1)
-    (λ c. by_sign_lem binary32 _ c.enum-told4.given.1))
+    (λ c. by_sign_lem binary32 _ c.in-North.is)
+    (λ c. by_sign_lem binary32 _ c.in-East.is)
+    (λ c. by_sign_lem binary32 _ c.in-South.is)
+    (λ c. by_sign_lem binary32 _ c.in-West.is))

@@ -9,5 +9,5 @@ fix_spec =
     tie.close
     (tie.spec
     (search rules) (search rules) (search rules)
-    (λ c. rw c.before.before.self.given.1 c.fix.ensures)
-    (λ c. rw c.enum_told.given.1))
+    (λ c. rw c.before.in-Accepted.is c.fix.ensures)
+    (λ c. rw c.in-Refused.is))

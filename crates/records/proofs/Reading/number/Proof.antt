@@ -9,5 +9,5 @@ number_spec =
     tie.close
     (tie.spec
     (search rules) (search rules) (search rules) (search rules)
-    (λ c. rw c.before.before.self.given.1 c.number.ensures)
-    (λ c. rw c.before.before.self2.given.1 c.number2.ensures))
+    (λ c. rw c.before.in-Accepted.is c.number.ensures)
+    (λ c. rw c.before.in-Refused.is c.number-in-Refused.ensures))

@@ -5,7 +5,7 @@ use Rattle.satellites.proofs.Reading.{counts}
 use Rattle.satellites.proofs.Satellites.count.Statement.{statement}
 use Rattle.satellites.proofs.Satellites.count.Tie as tie
 
-fits : tie.Need-overflow-add-result
+fits : tie.Need-overflow_add-result
 fits c =
     let s = c.before.before.args.self in
     record { fits = omega (arith, ones-le 64 s.low (search rules), ones-le 64 s.high (search rules)) }

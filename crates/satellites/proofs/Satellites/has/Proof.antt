@@ -5,7 +5,7 @@ use Rattle.satellites.proofs.Sets.{has_low, has_high, has_past}
 use Rattle.satellites.proofs.Satellites.has.Statement.{statement}
 use Rattle.satellites.proofs.Satellites.has.Tie as tie
 
-high : tie.Need-returns-2
+high : tie.Need-returns-then-n-lt128
 high c = let n = c.before.before.before.args.n in bit_read (n - 64) _ ∙ sym (has_high n (n - 64) _ (omega arith))
 
 pub has_spec : {M : Type 1} → statement M

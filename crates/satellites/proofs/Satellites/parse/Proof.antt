@@ -8,22 +8,22 @@ use Rattle.satellites.proofs.Satellites.parse.Statement.{statement}
 use Rattle.satellites.proofs.Satellites.parse.Tie as tie
 
 -- pairs were read up to i, and their numbers with those that are left make the whole
-abbrev invariant-loop : tie.invariant-loop
+abbrev invariant-loop : tie.invariant-loop-i
 invariant-loop text other heard₀ i₀ heard i = (i % 2 ≡ 0) × (adding heard (numbers (drop i text)) ≡ set_of (numbers text))
 
-abbrev decreases-loop : tie.decreases-loop
+abbrev decreases-loop : tie.decreases-loop-i
 decreases-loop text other heard₀ i₀ heard i = length text - i
 
-abbrev list : tie.Else2 invariant-loop decreases-loop → List ℕ
+abbrev list : tie.Else-other-text invariant-loop decreases-loop → List ℕ
 list c = c.before.before.before.before.args.text.now
 
-plain : (c : tie.Else2 invariant-loop decreases-loop) → all_digits_of (list c) ≡ true
+plain : (c : tie.Else-other-text invariant-loop decreases-loop) → all_digits_of (list c) ≡ true
 plain c = none_found (list c) (search rules)
 
 -- the two digits of a turn
-module _ (c : tie.In-loop invariant-loop decreases-loop) where
+module _ (c : tie.In-loop-i invariant-loop decreases-loop) where
   abbrev i : ℕ
-  i = c.before.loop.i
+  i = c.before.loop-i.i
 
   abbrev s : List ℕ
   s = list c.before.before
@@ -38,10 +38,10 @@ module _ (c : tie.In-loop invariant-loop decreases-loop) where
       let ones = digit_at s (i + 1) ds both_inside in
       (tens.0, tens.1, ones.0, ones.1)
 
-loop-again : tie.Need-loop-preserved invariant-loop decreases-loop
+loop-again : tie.Need-loop-i-preserved invariant-loop decreases-loop
 loop-again c =
-    let inv = c.before.before.before.before.loop.invariant.1 in
-    (search rules, rw c.with.ensures (pair_added _ _ _ inv (both_inside c.before.before.before)))
+    let inv = c.before.before.before.before.loop-i.invariant.1 in
+    (search rules, rw c.with-heard.ensures (pair_added _ _ _ inv (both_inside c.before.before.before)))
 
 pub parse_spec : {M : Type 1} → statement M
 parse_spec =
@@ -51,7 +51,7 @@ parse_spec =
     decreases-loop
     (λ c. odd_refused _ (search rules))
     (search rules)
-    (λ c. other_refused _ (search rules) c.before.first-other.ensures (search rules))
+    (λ c. other_refused _ (search rules) c.before.first_other-other.ensures (search rules))
     (λ c. (refl, adding_none _))
     (search rules)
     (λ c. omega (arith, digits c.before))
@@ -62,5 +62,5 @@ parse_spec =
     (λ c. record { fits = omega (arith, digits c.before.before) })
     (search rules) (search rules) (search rules)
     loop-again
-    (λ c. ap ok (all_added _ c.before.loop.i _ c.before.loop.invariant.1 (search rules))
+    (λ c. ap ok (all_added _ c.before.loop-i.i _ c.before.loop-i.invariant.1 (search rules))
     ∙ digits_read _ (search rules) (plain c.before.before)))

@@ -4,12 +4,12 @@ use Rattle.satellites.proofs.Sets.{shifted, with_low, with_high, with_none}
 use Rattle.satellites.proofs.Satellites.with.Statement.{statement}
 use Rattle.satellites.proofs.Satellites.with.Tie as tie
 
-low : tie.Need-returns
+low : tie.Need-returns-then-n-lt64
 low c =
     rw (shifted c.before.before.args.n (search rules))
     (with_low _ (search rules) (search rules) _ (search rules))
 
-high : tie.Need-returns-2
+high : tie.Need-returns-then-n-lt128
 high c =
     let n = c.before.before.before.args.n in
     rw (shifted (n - 64) (omega arith))

@@ -12,30 +12,30 @@ use Rattle.table.proofs.Table.parse.Tie as tie
 abbrev line : tie.Start → List ℕ
 line b = b.args.line.now
 
-long : (c : tie.Else1) → 3 ≤ length (line (search rules))
-long c = c.if1.false
+long : (c : tie.Else-line-lt3) → 3 ≤ length (line (search rules))
+long c = c.if-line-lt3.false
 
-lettered : (c : tie.Else2) → is_table_of (byte 0 (line (search rules))) ≡ true
-lettered c = so_true c.before.is-table.ensures c.if2.false
+lettered : (c : tie.Else-not-is_table) → is_table_of (byte 0 (line (search rules))) ≡ true
+lettered c = so_true c.before.is_table.ensures c.if-not-is_table.false
 
-plain : (c : tie.Else3) → is_ascii_of (line (search rules)) ≡ true
-plain c = so_true c.before.is_ascii.ensures c.if3.false
+plain : (c : tie.Else-not-is_ascii) → is_ascii_of (line (search rules)) ≡ true
+plain c = so_true c.before.is_ascii.ensures c.if-not-is_ascii.false
 
-count : (c : tie.After-count) → ok c.count.given.0.0 ≡ columns 1 3 (read_nat_of 255) (line (search rules))
+count : (c : tie.In-Ok) → ok c.in-Ok.count ≡ columns 1 3 (read_nat_of 255) (line (search rules))
 unfolding columns cut
-count c = found_in 1 (came u8_res c.count.given.1 c.before.before.read-u8.ensures)
+count c = found_in 1 (came u8_res c.in-Ok.is c.before.read_u8.ensures)
 
 no_count : (c : tie.After-moved) → no c.moved.result ≡ columns 1 3 (read_nat_of 255) (line (search rules))
 unfolding columns cut
-no_count c = refused_in 1 (came u8_res c.before.before.no-count.given.1
-    c.before.before.before.before.read-u8.ensures) c.moved.ensures
+no_count c = refused_in 1 (came u8_res c.before.in-Refused.is
+    c.before.before.read_u8.ensures) c.moved.ensures
 
-at_most_99 : (c : tie.After-count) → c.count.given.0.0 ≤ 99
+at_most_99 : (c : tie.In-Ok) → c.in-Ok.count ≤ 99
 unfolding columns cut
 at_most_99 c = two_characters 255 (cut 1 3 (line (search rules))) (simp (length-take, length-drop) (omega arith))
-    (came u8_res c.count.given.1 c.before.before.read-u8.ensures)
+    (came u8_res c.in-Ok.is c.before.read_u8.ensures)
 
-fits : tie.Need-parse-defs-requires
+fits : tie.Need-parse_defs-requires
 fits c κs = (at_most_99 (search rules), search rules)
 
 pub parse_spec : {M : Type 1} → statement M
@@ -46,26 +46,26 @@ parse_spec =
     (search rules)
     (λ c. c.refused.ensures ∙ ap table_read (stop _ (no≤ (search rules))))
     (search rules) (search rules) (search rules)
-    (λ c. c.refused2.ensures ∙ ap table_read
+    (λ c. c.refused-then-not-is_table.ensures ∙ ap table_read
     (pass _ (yes≤ (long (search rules)))
-    (stop _ (so_false c.before.before.is-table.ensures c.before.if2.true))))
+    (stop _ (so_false c.before.before.is_table.ensures c.before.if-not-is_table.true))))
     (search rules) (search rules)
-    (λ c. c.refused3.ensures ∙ ap table_read
+    (λ c. c.refused-then-not-is_ascii.ensures ∙ ap table_read
     (pass _ (yes≤ (long (search rules)))
     (pass _ (lettered (search rules))
-    (stop _ (so_false c.before.before.is_ascii.ensures c.before.if3.true)))))
+    (stop _ (so_false c.before.before.is_ascii.ensures c.before.if-not-is_ascii.true)))))
     (search rules) (search rules) (search rules) (search rules) (search rules) (search rules) (search rules)
     (search rules) (search rules)
-    (λ c. c.refused4.ensures ∙ ap table_read
+    (λ c. c.refused-then-line-count.ensures ∙ ap table_read
     (pass _ (yes≤ (long (search rules)))
     (pass _ (lettered (search rules))
     (pass _ (plain (search rules)) (on _ (count (search rules)) (stop _ (no= (search rules))))))))
     fits
     (search rules) (search rules) (search rules)
-    (λ c. c.parse-defs.ensures ∙ ap table_read
+    (λ c. c.parse_defs.ensures ∙ ap table_read
     (pass _ (yes≤ (long (search rules)))
     (pass _ (lettered (search rules))
     (pass _ (plain (search rules)) (on _ (count (search rules)) (pass _ (yes= (search rules)) refl))))))
-    (λ c. c.refused5.ensures ∙ ap table_read
+    (λ c. c.refused-in-Refused.ensures ∙ ap table_read
     (pass _ (yes≤ (long (search rules)))
     (pass _ (lettered (search rules)) (pass _ (plain (search rules)) (off _ (no_count (search rules))))))))

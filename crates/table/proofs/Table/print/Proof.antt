@@ -11,8 +11,8 @@ print_spec =
     (tie.spec
     (λ c. refused _ (stop _ (no≤ (search rules))))
     (search rules) (search rules)
-    (λ c. no_room (pass _ (yes≤ (search rules)) refl) c.before.before.put-piece.ensures (search rules))
+    (λ c. no_room (pass _ (yes≤ (search rules)) refl) c.before.before.put_piece.ensures (search rules))
     (search rules) (search rules)
     (λ c. written (pass _ (yes≤ (search rules)) refl)
-    c.before.before.before.before.before.before.put-piece.ensures (search rules)
-    c.before.before.put-piece2.ensures))
+    c.before.before.before.before.before.before.put_piece.ensures (search rules)
+    c.before.before.put_piece-2.ensures))

@@ -5,4 +5,4 @@ use Rattle.table.proofs.Table.refused.Tie as tie
 
 pub refused_spec : {M : Type 1} → statement M
 unfolding table_read
-refused_spec = tie.close (tie.spec (search rules) (λ c. rw c.new.ensures))
+refused_spec = tie.close (tie.spec (search rules) (λ c. rw c.new-table.ensures))

@@ -12,7 +12,7 @@ parse_ascii_spec =
     (tie.spec
     (search rules) (search rules) (search rules) (search rules)
     (λ c. on (made_by time_of)
-    (came three_res c.before.before.t.given.1 c.before.before.before.before.read-three.ensures)
-    c.from-hms.ensures ∙ three_then time_of _)
-    (λ c. off (made_by time_of) (came three_res c.before.no.given.1 c.before.before.before.read-three.ensures)
+    (came three_res c.before.in-Ok.is c.before.before.read_three.ensures)
+    c.from_hms.ensures ∙ three_then time_of _)
+    (λ c. off (made_by time_of) (came three_res c.in-Refused.is c.before.read_three.ensures)
     ∙ three_then time_of _))

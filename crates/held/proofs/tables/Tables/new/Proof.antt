@@ -5,4 +5,4 @@ use Rattle.held.proofs.tables.Tables.new.Tie as tie
 
 pub new_spec : {M : Type 1} → statement M
 unfolding no_tables
-new_spec = tie.close (tie.spec (search rules) (search rules) (λ c. rw (c.before.new.ensures, c.new2.ensures)))
+new_spec = tie.close (tie.spec (search rules) (search rules) (λ c. rw (c.before.new-i.ensures, c.new-j.ensures)))
