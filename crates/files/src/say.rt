@@ -101,6 +101,15 @@ pub fn tell(sys: &System, told: Sink, file: &[u8], outcome: Outcome) {
     }
 }
 
+// A number.
+pub fn write_number(sys: &System, to: Sink, n: u64) {
+    let mut text = [0u8; 20];
+    let end = put_nat(&mut text, 0, n, 1);
+    if end <= text.len() {
+        write_all(sys, to, &text[0..end]);
+    }
+}
+
 // Writes a text that ends there to standard output; where it cannot be written a sentence says so.
 pub fn write_block(sys: &System, text: &mut [u8], end: usize) -> bool {
     if text.len() < end {

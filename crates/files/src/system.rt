@@ -1,6 +1,6 @@
 // The system as a program of the desk has it: what it reads from and writes to, its words, and why the last call that
 // failed did.
-ghost use Rattle.std.specs.Prelude.{◌≤◌, length};
+ghost use Rattle.std.specs.Prelude.{◌≡◌, ◌≤◌, length};
 ghost use Rattle.std.specs.Io.{ReadsAtMost, WritesAtMost};
 ghost use Rattle.files.specs.Call.{Moved};
 
@@ -26,6 +26,7 @@ const EILSEQ: i32 = 84;
 pub struct System {
     rt: HostRuntime,
     errno: Cell<i32>,
+    is_input_closed: Cell<bool>,
 }
 
 // Standard input, or a file that is open.
@@ -44,11 +45,19 @@ pub enum Sink {
     Number(u8),
 }
 
+// Room for a word, as long as a file's name may be.
+pub fn buffer() -> [u8; 4096]
+    ensures { 4096 ≡ length result }
+{
+    [0; 4096]
+}
+
 impl System {
     pub fn new(rt: HostRuntime) -> System {
         System {
             rt,
             errno: Cell::new(0),
+            is_input_closed: Cell::new(false),
         }
     }
 
@@ -83,7 +92,12 @@ impl System {
         ensures { ReadsAtMost result buf.new }
     {
         match from {
-            Source::Input => self.rt.stdin().read(buf),
+            Source::Input => {
+                if self.is_input_closed.get() {
+                    return Err(io::Error::from_raw_os_error(EBADF));
+                }
+                self.rt.stdin().read(buf)
+            }
             Source::File(file) => {
                 let mut file: &File = file;
                 file.read(buf)
@@ -137,6 +151,13 @@ impl System {
                 self.failed(why);
                 None
             }
+        }
+    }
+
+    // Closes it. From standard input nothing can be read after that.
+    pub fn close(&self, from: Source) {
+        if let Source::Input = from {
+            self.is_input_closed.set(true);
         }
     }
 

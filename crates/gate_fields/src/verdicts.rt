@@ -84,7 +84,8 @@ pub fn by_hand(rt: HostRuntime) {
     verdict(rt, RawLongitude(coord(181, 0, Compass::West)).by_the_book());
     verdict(rt, RawLongitude(coord(91, 1, Compass::West)).by_the_book());
     verdict(
-        rt, (Date {
+        rt,
+        (Date {
             day: 1,
             month: 1,
             year: 100,
@@ -92,7 +93,8 @@ pub fn by_hand(rt: HostRuntime) {
         .by_the_book(),
     );
     verdict(
-        rt, (Date {
+        rt,
+        (Date {
             day: 1,
             month: 13,
             year: 99,
@@ -100,7 +102,8 @@ pub fn by_hand(rt: HostRuntime) {
         .by_the_book(),
     );
     verdict(
-        rt, (Date {
+        rt,
+        (Date {
             day: 29,
             month: 2,
             year: 96,

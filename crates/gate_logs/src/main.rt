@@ -32,7 +32,8 @@ fn lines(rt: HostRuntime) {
     list(rt, b"one of two CRs is dropped", b"I00\r\r\nI00\n");
     list(rt, b"the last line has no LF", b"I00\nI013638FXA");
     list(
-        rt, b"bytes that are not UTF-8",
+        rt,
+        b"bytes that are not UTF-8",
         b"\xff\xfe\n\x80A\nHFFTY:\xc3\n",
     );
 }
@@ -42,14 +43,16 @@ fn tables(rt: HostRuntime) {
     list(rt, b"an accepted one replaces it", b"I0\nI00\nI00\nJ00\n");
     list(rt, b"a J line does not touch it", b"J00\nJ0\n");
     list(
-        rt, b"nor does one that is refused, after an I line",
+        rt,
+        b"nor does one that is refused, after an I line",
         b"HFFTY:\nI013638FXA\nJ0\n",
     );
 }
 
 fn data(rt: HostRuntime) {
     list(
-        rt, b"K lines are read, and have no heights",
+        rt,
+        b"K lines are read, and have no heights",
         b"J010810WSP\nK10153004512\nK10153\n",
     );
 }
@@ -57,7 +60,8 @@ fn data(rt: HostRuntime) {
 fn letters(rt: HostRuntime) {
     list(rt, b"first bytes about A to Z", b"@\nA\nZ\n[\na\n");
     list(
-        rt, b"heights of both signs",
+        rt,
+        b"heights of both signs",
         b"B1015304712345N01102500EA-012312345\nB1015304712345N01102500EV00000-0001\n",
     );
 }

@@ -82,29 +82,52 @@ fn say(rt: HostRuntime, what: &[u8], fix: BRecord, tables: Tables) {
 // Of the rest, from the line's start on.
 fn in_the_rest(rt: HostRuntime) {
     let there = fix(Compass::South, Compass::West, 0, 12);
-    say(rt, b"the largest", there, tables(Slot::Set, 2, 36, 40, 41, 45));
+    say(
+        rt,
+        b"the largest",
+        there,
+        tables(Slot::Set, 2, 36, 40, 41, 45),
+    );
     let across = fix(Compass::West, Compass::North, 0, 12);
     say(rt, b"across", across, tables(Slot::Set, 2, 36, 36, 41, 42));
     say(rt, b"a sign", there, tables(Slot::Set, 2, 36, 40, 46, 47));
-    say(rt, b"ends first", there, tables(Slot::Set, 2, 40, 36, 41, 45));
-    say(rt, b"starts at 0", there, tables(Slot::Set, 2, 36, 40, 0, 45));
+    say(
+        rt,
+        b"ends first",
+        there,
+        tables(Slot::Set, 2, 40, 36, 41, 45),
+    );
+    say(
+        rt,
+        b"starts at 0",
+        there,
+        tables(Slot::Set, 2, 36, 40, 0, 45),
+    );
     say(rt, b"wide", there, tables(Slot::Set, 2, 36, 47, 41, 45));
     say(
-        rt, b"wide and past the rest",
+        rt,
+        b"wide and past the rest",
         there,
         tables(Slot::Set, 2, 36, 255, 41, 45),
     );
     say(
-        rt, b"100 definitions",
+        rt,
+        b"100 definitions",
         there,
         tables(Slot::Set, 100, 36, 40, 41, 45),
     );
     say(
-        rt, b"one definition",
+        rt,
+        b"one definition",
         there,
         tables(Slot::Set, 1, 36, 40, 41, 45),
     );
-    say(rt, b"spoiled", there, tables(Slot::Spoiled, 2, 36, 40, 41, 45));
+    say(
+        rt,
+        b"spoiled",
+        there,
+        tables(Slot::Spoiled, 2, 36, 40, 41, 45),
+    );
     say(rt, b"never", there, tables(Slot::Never, 0, 0, 0, 0, 0));
 }
 
@@ -113,13 +136,15 @@ fn outside(rt: HostRuntime) {
     let past = fix(Compass::North, Compass::East, 1, 12);
     say(rt, b"outside", past, tables(Slot::Set, 2, 36, 255, 0, 0));
     say(
-        rt, b"outside, one definition",
+        rt,
+        b"outside, one definition",
         past,
         tables(Slot::Set, 1, 36, 255, 0, 0),
     );
     let far = fix(Compass::North, Compass::East, 0xffff_ffff_ffff_ffff, 2);
     say(
-        rt, b"at the largest place",
+        rt,
+        b"at the largest place",
         far,
         tables(Slot::Set, 2, 36, 40, 41, 45),
     );

@@ -42,29 +42,38 @@ fn labels(rt: HostRuntime) {
         C0000000N00000000E\n";
     sheet(rt, b"no labels", log, b"");
     sheet(
-        rt, b"a label for each, the last without LF",
+        rt,
+        b"a label for each, the last without LF",
         log,
         b"ONE\nTWO\nTHREE\nFOUR",
     );
     sheet(rt, b"fewer labels", log, b"ONE\n");
     sheet(rt, b"an empty label", log, b"\nTWO\n\nFOUR\nFIVE\n");
     sheet(
-        rt, b"CR before LF, and elsewhere",
+        rt,
+        b"CR before LF, and elsewhere",
         log,
         b"O\rNE\r\n\r\nTHREE\r\r\nFOUR\r",
     );
-    sheet(rt, b"labels that are not UTF-8", log, b"\xff\xc3\n\n\x80\n\xfe");
+    sheet(
+        rt,
+        b"labels that are not UTF-8",
+        log,
+        b"\xff\xc3\n\n\x80\n\xfe",
+    );
 }
 
 fn points(rt: HostRuntime) {
     sheet(
-        rt, b"one turn, and lines after the landing",
+        rt,
+        b"one turn, and lines after the landing",
         b"C150326083012150326000101\nC4712345N01102500EA\nC4712345N01102500EB\nC4712345N01102500EC\n\
         C4712345N01102500ED\nC4712345N01102500EE\nC4712345N01102500EF\nLXCS\n",
         b"",
     );
     sheet(
-        rt, b"the first of two declarations, behind a refused one and a point",
+        rt,
+        b"the first of two declarations, behind a refused one and a point",
         b"C15032608301215032600010z\nC4712345N01102500E\nC150326083012150326000100\nC4712345N01102500EA\n\
         C4712345N01102500EB\nC4712345N01102500EC\nC4712345N01102500ED\nC150326083012150326000100\n",
         b"",
@@ -74,29 +83,34 @@ fn points(rt: HostRuntime) {
 fn refusals(rt: HostRuntime) {
     sheet(rt, b"an empty log", b"", b"ONE\n");
     sheet(
-        rt, b"points alone",
+        rt,
+        b"points alone",
         b"C4712345N01102500E\nC4712345N01102500E\n",
         b"",
     );
     sheet(
-        rt, b"a negative count, and no points",
+        rt,
+        b"a negative count, and no points",
         b"C1503260830121503260001-1\n",
         b"",
     );
     sheet(rt, b"no points", b"C150326083012150326000100\n", b"");
     sheet(
-        rt, b"a point too few",
+        rt,
+        b"a point too few",
         b"C150326083012150326000100\nC4712345N01102500E\nC4712345N01102500E\nC4712345N01102500E\n",
         b"",
     );
     sheet(
-        rt, b"a refused line between",
+        rt,
+        b"a refused line between",
         b"C150326083012150326000100\nC4712345N01102500E\nC4712345N01102500\nC4712345N01102500E\n\
         C4712345N01102500E\nC4712345N01102500E\n",
         b"",
     );
     sheet(
-        rt, b"a second declaration between",
+        rt,
+        b"a second declaration between",
         b"C150326083012150326000100\nC4712345N01102500E\nC150326083012150326000100\nC4712345N01102500E\n\
         C4712345N01102500E\nC4712345N01102500E\nC4712345N01102500E\n",
         b"",
@@ -110,7 +124,8 @@ fn room(rt: HostRuntime) {
     small(rt, b"just room", log, b"ONE\n");
     small(rt, b"a byte too few", log, b"FOUR\n");
     small(
-        rt, b"too few points come before too few bytes",
+        rt,
+        b"too few points come before too few bytes",
         b"C150326083012150326000101\n\
         C4712345N01102500EA LONG NAME\nC4712345N01102500EA LONG NAME\nC4712345N01102500EA LONG NAME\n",
         b"",
