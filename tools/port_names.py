@@ -25,7 +25,12 @@ DECL = re.compile(r"^\s*(?:(?:abbrev|unfoldable|pub|ruleset) )*(" + IDENT + r")(
 USE = re.compile(r"(?:^|\n)\s*(?:(?:unfoldable|pub|ghost) )*use ([^;\n{]*?)\.?(\{[^}]*\})?;?(?=\n|$)")
 
 
+SPECIAL = {"Line-read": "LineReading", "Watch-read": "WatchReading", "LF-passes": "lf_passes", "LF-closes": "lf_closes"}
+
+
 def snake(name):
+    if name in SPECIAL:
+        return SPECIAL[name]
     if not re.match(r"^[a-z]", name):
         return name
     name = re.sub(r"([a-z0-9])([A-Z])", r"\1_\2", name)
@@ -149,7 +154,7 @@ def turned_path(token, new, fields):
     for q in parts[1:]:
         if q in fields and q in new:
             out.append(new[q])
-        elif module and q in new:
+        elif (module or q in SPECIAL) and q in new:
             out.append(new[q])
         else:
             out.append(q)

@@ -13,7 +13,7 @@ use Rattle.held.specs.declared.tables.Tables.{Tables}
 use Rattle.report.specs.Report.{report_after}
 use Rattle.cursor.specs.Cursor.{past}
 use Rattle.walk.specs.Walk.{reading_of, step_of}
-use Rattle.walk.specs.Readings.{Line-read, reader}
+use Rattle.walk.specs.Readings.{LineReading, reader}
 use Rattle.walk.specs.declared.{Walk.Walk, Step.Step}
 use Rattle.walk.specs.declared.Taken.TheVariants.{Line, Done}
 use Rattle.walk.proofs.Laws.{viewed, step_on}
@@ -23,7 +23,7 @@ use Rattle.walk.proofs.Steps.{Roomy, going, roomy_on, roomy_step}
 abbrev pub carried_by : {T : Type 0} → Walk → T → Carried Tables T
 carried_by w a = record { number = w.at.number; place = w.at.place; held = w.held; made = a }
 
-module _ {T : Type 0} {step : T → Line-read → T} {a₀ a : T} {s : List ℕ} {w : Walk} {t : Step}
+module _ {T : Type 0} {step : T → LineReading → T} {a₀ a : T} {s : List ℕ} {w : Walk} {t : Step}
     (roomy : Roomy s w)
     (i : w.at.place < length s) (r : Reached reader step (fresh reader a₀) s w.at.place (carried_by w a))
     (e : t ≡ step_of s w) where

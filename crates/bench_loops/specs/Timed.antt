@@ -18,7 +18,7 @@ use Rattle.report.specs.Range.{Range, none, between}
 use Rattle.report.specs.Figures.{Figures}
 use Rattle.report.specs.Report.{report_of}
 use Rattle.report.specs.declared.{pressure.PressurePeak.PressurePeak, gps.GpsPeak.GpsPeak}
-use Rattle.walk.specs.Readings.{Line-read, reader}
+use Rattle.walk.specs.Readings.{LineReading, reader}
 
 -- A sum, as 64 bits hold it.
 unfoldable pub summed : ℕ → ℕ → ℕ
@@ -81,11 +81,11 @@ pub record PrintedLine (m : Res (List ℕ)) (b b' : List ℕ) (r : ℕ) : Type 0
 -- ---- a line
 
 -- One reading more in the sum of answers.
-unfoldable pub read_step : ℕ → Line-read → ℕ
+unfoldable pub read_step : ℕ → LineReading → ℕ
 read_step n x = summed n (of_answer x.answer)
 
 -- The same, with the value of a name on fixes.
-unfoldable pub look_up_step : Mnemonic → ℕ → Line-read → ℕ
+unfoldable pub look_up_step : Mnemonic → ℕ → LineReading → ℕ
 look_up_step name n x = summed (summed n (of_answer x.answer))
     (of_named_of name x.held.i (answer_fix x.answer) x.line)
 
@@ -95,7 +95,7 @@ pub record Out : Type 0 where
   pub bytes : List ℕ
 
 -- One reading more printed, and its length in the sum.
-unfoldable pub print_step : Out → Line-read → Out
+unfoldable pub print_step : Out → LineReading → Out
 print_step o x = let text = answer_printed x.answer x.line in record {
   sum = summed o.sum (written_length (answer_to text o.bytes));
   bytes = left_by text o.bytes;

@@ -12,7 +12,7 @@ use Rattle.block_read.specs.Read.{Read, got, next, starts_with, read_number_of}
 use Rattle.block_read.specs.Block.{read_count, read_answer_of, read_answers_of}
 use Rattle.block_read.proofs.Undoing.{Printed, Prints, Undoes, Both, in_row, got_same, came_from, then_printed}
 use Rattle.block_read.proofs.Undoing.{then_before, into_printed, starts_with_lem, starts_so}
-use Rattle.block_read.proofs.LinesUndone.{number_text, number, some, space_closes, LF-closes}
+use Rattle.block_read.proofs.LinesUndone.{number_text, number, some, space_closes, lf_closes}
 
 -- ---- one line
 
@@ -21,7 +21,7 @@ index = number largest (code " ") space_closes
 
 count : Undoes (λ n. suc n ≤ largest) (λ n. number_text LF (suc n)) (λ n. suc n) read_count
 unfolding read_count
-count = some largest LF LF-closes (λ n. n)
+count = some largest LF lf_closes (λ n. n)
 
 some_line : (i n : ℕ) (r : List ℕ) →
     answer_line i (suc n) ++ r ≡ spelt "answer " ++ (number_text (code " ") i ++ (number_text LF (suc n) ++ r))

@@ -88,9 +88,9 @@ colon_closes : is_digit_of (code ":") ≡ false
 unfolding is_digit_of ◌≤?◌ ◌∧?◌ pick
 colon_closes = refl
 
-pub LF-closes : is_digit_of LF ≡ false
+pub lf_closes : is_digit_of LF ≡ false
 unfolding is_digit_of ◌≤?◌ ◌∧?◌ pick
-LF-closes = refl
+lf_closes = refl
 
 -- ---- heights
 
@@ -149,11 +149,11 @@ height = record {
 
 pub line : (ws : List ℕ) → Undoes (λ n. n ≤ largest) (number_line ws) (λ n. n) (read_line_of ws)
 unfolding read_line_of number_line
-line ws = behind ws (number largest LF LF-closes)
+line ws = behind ws (number largest LF lf_closes)
 
 time_line : (ws : List ℕ) → Undoes (λ n. n ≤ 4294967295) (number_line ws) (λ n. n) (read_time_of ws)
 unfolding read_time_of number_line
-time_line ws = behind ws (number 4294967295 LF LF-closes)
+time_line ws = behind ws (number 4294967295 LF lf_closes)
 
 abbrev SpotFits : ℤ × (ℕ × ℕ) → Type 0
 SpotFits = Both Height (Both (λ n. n ≤ largest) (λ n. n ≤ largest))
@@ -167,7 +167,7 @@ spot ws =
     (then height (λ h.
     behind (spelt "at ")
     (then (number largest (code ":") colon_closes) (λ log.
-    into (number largest LF LF-closes) (λ place. (h, (log, place))))))))
+    into (number largest LF lf_closes) (λ place. (h, (log, place))))))))
     (λ x. simp append_assoc)
 
 pub pressure : (ws : List ℕ) → Undoes PressureFits (pressure_spot_line ws) (λ p. p) (read_pressure ws)

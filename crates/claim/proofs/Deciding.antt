@@ -6,7 +6,7 @@ use Rattle.text.proofs.Prelude.{first, second, no=, by_test, never}
 use Rattle.records.specs.Record.{answer_fix}
 use Rattle.report.specs.Report.{shown}
 use Rattle.igc_log.specs.Fold.{over}
-use Rattle.walk.specs.Readings.{Line-read}
+use Rattle.walk.specs.Readings.{LineReading}
 use Rattle.claim_line.specs.Asked.{asked_of}
 use Rattle.claim.specs.Rules.{some, is_none, is_line, is_short, steps_back, times_of, last_time, is_again_of, holds}
 use Rattle.claim.specs.Rules.{breaks, first_is_a, how_many, last_after}
@@ -22,13 +22,13 @@ use Rattle.claim.proofs.Stepping.{no_stays_over}
 
 -- ---- all rules
 
-pub holds_all : (xs : List Line-read) → ((r : Rule) → holds r xs ≡ true) → all_hold xs ≡ true
+pub holds_all : (xs : List LineReading) → ((r : Rule) → holds r xs ≡ true) → all_hold xs ≡ true
 unfolding all_hold
 holds_all xs h =
     and (h Rule.First)
     (and (h Rule.Table) (and (h Rule.Long) (and (h Rule.Refused) (and (h Rule.Book) (h Rule.Time)))))
 
-pub all_holds : (xs : List Line-read) → all_hold xs ≡ true → (r : Rule) → holds r xs ≡ true
+pub all_holds : (xs : List LineReading) → all_hold xs ≡ true → (r : Rule) → holds r xs ≡ true
 unfolding all_hold
 all_holds xs h Rule.First = (both h).0
 all_holds xs h Rule.Table = (both (both h).1).0
@@ -38,7 +38,7 @@ all_holds xs h Rule.Book = (both (both (both (both (both h).1).1).1).1).0
 all_holds xs h Rule.Time = (both (both (both (both (both h).1).1).1).1).1
 
 -- a line and the first rule that does not hold of some lines, where one does not
-abbrev no_at : ℕ → List Line-read → Verdict
+abbrev no_at : ℕ → List LineReading → Verdict
 no_at n xs = pick (all_hold xs) Verdict.Yes (Verdict.No n (first_broken xs))
 
 verdict_row : (n : ℕ) (a b c d e f : Bool) →
@@ -68,7 +68,7 @@ verdict_row n true true true true true true = refl
 -- ---- one line more
 
 -- what lines that all passed come to
-abbrev summary : List Line-read → Sofar
+abbrev summary : List LineReading → Sofar
 summary xs = record {
   verdict = Verdict.Yes;
   lines = length xs;
@@ -80,15 +80,15 @@ summary xs = record {
 }
 
 -- no rule is broken so far
-abbrev Fine : List Line-read → Type 0
+abbrev Fine : List LineReading → Type 0
 Fine xs = (r : Rule) → (is_none xs ∨? holds r xs) ≡ true
 
-fine_held : (xs : List Line-read) → all_hold xs ≡ true → Fine xs
+fine_held : (xs : List LineReading) → all_hold xs ≡ true → Fine xs
 fine_held xs h r = rw (all_holds xs h r) (∨?-true (is_none xs))
 
-module _ (before : List Line-read) (x : Line-read) where
+module _ (before : List LineReading) (x : LineReading) where
   -- the lines with this one
-  abbrev with : List Line-read
+  abbrev with : List LineReading
   with = before ++ (x ∷ [])
 
   -- what is asked of this line, by the rules
@@ -140,7 +140,7 @@ module _ (before : List Line-read) (x : Line-read) where
 -- ---- from line to line
 
 -- a rule that holds of some lines holds of the first of them
-holds_of_first : (r : Rule) (x : Line-read) (xs ys : List Line-read) → holds r ((x ∷ xs) ++ ys) ≡ true →
+holds_of_first : (r : Rule) (x : LineReading) (xs ys : List LineReading) → holds r ((x ∷ xs) ++ ys) ≡ true →
     holds r (x ∷ xs) ≡ true
 unfolding ◌∨?◌ pick
 holds_of_first r x xs [] h = rw (append-nil (x ∷ xs)) at h
@@ -148,11 +148,11 @@ holds_of_first r x xs (y ∷ ys) h =
     let more = holds_of_first r x (xs ++ (y ∷ [])) ys (rw (append_assoc (x ∷ xs) (y ∷ []) ys) h) in
     rw (some_lines x xs) at (both (sym (one_more_line.line r (x ∷ xs) y) ∙ more)).0
 
-all_of_first : (x : Line-read) (xs ys : List Line-read) → all_hold ((x ∷ xs) ++ ys) ≡ true → all_hold (x ∷ xs) ≡ true
+all_of_first : (x : LineReading) (xs ys : List LineReading) → all_hold ((x ∷ xs) ++ ys) ≡ true → all_hold (x ∷ xs) ≡ true
 all_of_first x xs ys h = holds_all (x ∷ xs) (λ r. holds_of_first r x xs ys (all_holds ((x ∷ xs) ++ ys) h r))
 
 -- so of lines that fail more fail
-more_fail : (before ys : List Line-read) (x : Line-read) → all_hold (before ++ (x ∷ [])) ≡ false →
+more_fail : (before ys : List LineReading) (x : LineReading) → all_hold (before ++ (x ∷ [])) ≡ false →
     all_hold (before ++ (x ∷ ys)) ≡ false
 more_fail [] ys x n =
     by_test (all_hold (x ∷ ys)) (λ h. never (all_of_first x [] ys h) n) (λ h. h)
@@ -162,11 +162,11 @@ more_fail (b ∷ bs) ys x n =
     (λ h. h)
 
 -- the verdict on all lines, with that line where one fails
-abbrev verdict_at : List Line-read → ℕ → Verdict
+abbrev verdict_at : List LineReading → ℕ → Verdict
 verdict_at xs line = pick (all_hold xs) Verdict.Yes (Verdict.No line (first_broken (take line xs)))
 
 -- the first line from k on at which one fails
-abbrev line_from : List Line-read → ℕ → ℕ → ℕ
+abbrev line_from : List LineReading → ℕ → ℕ → ℕ
 line_from xs k n = least_not (λ k. all_hold (take k xs)) k n
 
 -- after the last line
@@ -174,7 +174,7 @@ walks_none : Fine [] → verdict_at_end (summary []) ≡ verdict_at [] 1
 unfolding verdict_at_end is_yes all_hold holds first_is_a first_broken ◌∧?◌ pick ◌=?◌
 walks_none f = refl
 
-walks_end : (before : List Line-read) → Fine before →
+walks_end : (before : List LineReading) → Fine before →
     verdict_at_end (summary before) ≡ verdict_at before (line_from before (length before + 1) 0)
 unfolding verdict_at_end is_yes pick least_not ◌∨?◌
 walks_end [] f = walks_none f
@@ -191,12 +191,12 @@ least_here : (t : ℕ → Bool) (k n : ℕ) → t k ≡ false → least_not t k 
 unfolding least_not pick
 least_here t k n h = rw h
 
-module _ (before ys : List Line-read) (x : Line-read) where
+module _ (before ys : List LineReading) (x : LineReading) where
   -- this line, and all
   abbrev number : ℕ
   number = length before + 1
 
-  abbrev all : List Line-read
+  abbrev all : List LineReading
   all = before ++ (x ∷ ys)
 
   first_of_all : take number all ≡ before ++ (x ∷ [])
@@ -231,7 +231,7 @@ module _ (before ys : List Line-read) (x : Line-read) where
   unfolding failed is_yes
   fallen_no = refl
 
-walks : (before rest : List Line-read) → Fine before →
+walks : (before rest : List LineReading) → Fine before →
     verdict_at_end (over claim_step (summary before) rest)
     ≡ verdict_at (before ++ rest) (line_from (before ++ rest) (length before + 1) (length rest))
 unfolding over
@@ -253,7 +253,7 @@ fine_at_first : Fine []
 unfolding is_none ◌=?◌ ◌∨?◌ pick
 fine_at_first r = refl
 
-decided : (xs : List Line-read) → verdict_at_end (over claim_step fresh xs) ≡ claim_of xs
+decided : (xs : List LineReading) → verdict_at_end (over claim_step fresh xs) ≡ claim_of xs
 unfolding claim_of failing_line
 decided xs = rw nothing_seen (walks [] xs fine_at_first)
 

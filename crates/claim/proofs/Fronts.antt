@@ -9,7 +9,7 @@ use Rattle.igc_log.specs.Log.{read_from, readings}
 use Rattle.igc_log.specs.Fold.{over}
 use Rattle.igc_log.proofs.Chunks.{chunks_some}
 use Rattle.igc_log.proofs.Ends.{text_length_le, line_text_first}
-use Rattle.walk.specs.Readings.{Line-read, reader}
+use Rattle.walk.specs.Readings.{LineReading, reader}
 use Rattle.claim_line.specs.Asked.{asked_of}
 use Rattle.claim.specs.Step.{is_yes, seen_again, out_of_place, no_start, line_verdict_of, failed, judged, claim_step}
 use Rattle.claim.specs.Laws.{LongFront}
@@ -87,12 +87,12 @@ step_no : (c : Sofar) (b : ℕ) → is_yes (front_step c b).verdict ≡ false
 unfolding front_step failed pick
 step_no c b = by_test (is_yes c.verdict) (λ e. rw e (front_no c b)) (λ e. rw e e)
 
-step_front : (c : Sofar) (b : ℕ) (x : Line-read) → ((letter : ℕ) → begins letter x.line ≡ (b =? letter)) →
+step_front : (c : Sofar) (b : ℕ) (x : LineReading) → ((letter : ℕ) → begins letter x.line ≡ (b =? letter)) →
     77 ≤ length x.line → claim_step c x ≡ front_step c b
 unfolding claim_step judged front_step pick
 step_front c b x h long = rw (front_judged c b x.line x.answer h long, front_no c b)
 
-first_front : (c : Sofar) (b : ℕ) (x : Line-read) (xs : List Line-read) →
+first_front : (c : Sofar) (b : ℕ) (x : LineReading) (xs : List LineReading) →
     ((letter : ℕ) → begins letter x.line ≡ (b =? letter)) → 77 ≤ length x.line →
     over claim_step c (x ∷ xs) ≡ front_step c b
 unfolding over

@@ -10,7 +10,7 @@ use Rattle.records.specs.Record.{answer_fix}
 use Rattle.records.specs.declared.MaybeFix.{MaybeFix}
 use Rattle.report.specs.Figures.{earlier}
 use Rattle.report.specs.Report.{of_fix_of, time_at, shown}
-use Rattle.walk.specs.Readings.{Line-read}
+use Rattle.walk.specs.Readings.{LineReading}
 use Rattle.claim_line.specs.Asked.{is_accepted_of, is_book_of, second_in_of}
 use Rattle.claim.specs.Rules.{how_many, some, every, none_behind, is_none, is_line, backs_after, steps_back, times_of}
 use Rattle.claim.specs.Rules.{first_is_a, once_before_b, is_short, last_after, last_time, goes_back_of}
@@ -51,7 +51,7 @@ none_behind_more p q (y ∷ xs) x =
     (behind_tested (q y) (some p xs) (p x) (none_behind p q xs) (some q xs))
 
 -- a letter
-once_more_line : (letter : ℕ) (xs : List Line-read) (x : Line-read) →
+once_more_line : (letter : ℕ) (xs : List LineReading) (x : LineReading) →
     once_before_b letter (xs ++ (x ∷ [])) ≡ (once_before_b letter xs ∧? not (is_again_of letter xs x))
 unfolding once_before_b is_again_of some
 once_more_line letter xs x =
@@ -81,10 +81,10 @@ backs_from_none (t ∷ ts) =
     let e : (t + 1 ≤? 0) ≡ false = no≤ (omega arith) in rw (e, zero-add (backs_after t ts))
 
 -- the times of one line
-abbrev time_in : Line-read → List ℕ
+abbrev time_in : LineReading → List ℕ
 time_in x = of_fix_of (time_at x.place) (answer_fix x.answer)
 
-times_more : (xs : List Line-read) (x : Line-read) → times_of (xs ++ (x ∷ [])) ≡ times_of xs ++ time_in x
+times_more : (xs : List LineReading) (x : LineReading) → times_of (xs ++ (x ∷ [])) ≡ times_of xs ++ time_in x
 unfolding times_of shown
 times_more [] x = append-nil (time_in x)
 times_more (y ∷ xs) x = rw (times_more xs x, append_assoc)
@@ -105,7 +105,7 @@ unfolding of_fix_of time_at last_after last_with_of second_in_of
 one_last s p MaybeFix.Missing = refl
 one_last s p (MaybeFix.Fix b) = refl
 
-pub backs_more : (xs : List Line-read) (x : Line-read) →
+pub backs_more : (xs : List LineReading) (x : LineReading) →
     steps_back (times_of (xs ++ (x ∷ [])))
     ≡ steps_back (times_of xs) + pick (goes_back_of (last_time xs) (answer_fix x.answer)) 1 0
 unfolding last_time
@@ -118,7 +118,7 @@ backs_more xs x =
       one_back (last_after 0 (times_of xs)) x.place (answer_fix x.answer),
     )
 
-pub last_more : (xs : List Line-read) (x : Line-read) →
+pub last_more : (xs : List LineReading) (x : LineReading) →
     last_time (xs ++ (x ∷ [])) ≡ last_with_of (last_time xs) (second_in_of (answer_fix x.answer))
 unfolding last_time
 last_more xs x =
@@ -127,12 +127,12 @@ last_more xs x =
 -- ---- the rules
 
 -- there are lines
-pub some_lines : (x : Line-read) (xs : List Line-read) → is_none (x ∷ xs) ≡ false
+pub some_lines : (x : LineReading) (xs : List LineReading) → is_none (x ∷ xs) ≡ false
 unfolding is_none
 some_lines x xs = no= (λ e. omega (arith, e))
 
 -- a rule that no lines break holds so far, or there are none
-held_so_far : (r : Rule) (xs : List Line-read) → holds r [] ≡ true → (is_none xs ∨? holds r xs) ≡ holds r xs
+held_so_far : (r : Rule) (xs : List LineReading) → holds r [] ≡ true → (is_none xs ∨? holds r xs) ≡ holds r xs
 unfolding ◌∨?◌ pick
 held_so_far r [] h = rw h (∨?-true (is_none []))
 held_so_far r (x ∷ xs) h = rw (some_lines x xs)
@@ -159,7 +159,7 @@ unfolding holds times_of shown steps_back ◌≤?◌
 no_times = refl
 
 -- one line more, of the first rule
-first_more : (before : List Line-read) (x : Line-read) →
+first_more : (before : List LineReading) (x : LineReading) →
     first_is_a (before ++ (x ∷ []))
     ≡ ((is_none before ∨? first_is_a before) ∧? not (is_none before ∧? not (is_line (code "A") x)))
 unfolding first_is_a is_none ◌∨?◌ ◌∧?◌ pick ◌=?◌
@@ -167,12 +167,12 @@ first_more [] x = sym (not_not (is_line (code "A") x))
 first_more (y ∷ ys) x = rw (some_lines y ys) (sym (∧?-true (is_line (code "A") y)))
 
 -- of a rule that is asked of each line
-each_more : (p : Line-read → Bool) (before : List Line-read) (x : Line-read) →
+each_more : (p : LineReading → Bool) (before : List LineReading) (x : LineReading) →
     every p (before ++ (x ∷ [])) ≡ (every p before ∧? not (not (p x)))
 each_more p before x = rw (not_not (p x)) (every_more p before x)
 
 -- of each rule
-line_more : (r : Rule) (before : List Line-read) (x : Line-read) →
+line_more : (r : Rule) (before : List LineReading) (x : LineReading) →
     holds r (before ++ (x ∷ [])) ≡ ((is_none before ∨? holds r before) ∧? not (breaks r before x))
 unfolding holds breaks
 line_more Rule.First before x = first_more before x

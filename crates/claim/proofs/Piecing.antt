@@ -9,7 +9,7 @@ use Rattle.igc_log.proofs.Chunks.{chunks_le}
 use Rattle.igc_log.proofs.Pieces.{length_readings, made_is, fed_append}
 use Rattle.held.specs.Tables.{no_tables}
 use Rattle.held.specs.declared.tables.Tables.{Tables}
-use Rattle.walk.specs.Readings.{Line-read, reader}
+use Rattle.walk.specs.Readings.{LineReading, reader}
 use Rattle.claim.specs.Step.{fresh, claim_step, claim_on_of, verdict_at_end}
 use Rattle.claim.specs.Claim.{claim_of}
 use Rattle.claim.specs.Laws.{InPieces}
@@ -36,7 +36,7 @@ module _ {A H T : Type 0} (R : Reader A H) (step : T → LineRead A H → T)
       ∙ over_same (n + 1) (n' + 1) (p + length k) (p' + length k) x.held y.held (step a y) ks
 
 -- so does the step of a claim
-claim_alone : (c : Sofar) (x y : Line-read) → x.line ≡ y.line → x.answer ≡ y.answer → claim_step c x ≡ claim_step c y
+claim_alone : (c : Sofar) (x y : LineReading) → x.line ≡ y.line → x.answer ≡ y.answer → claim_step c x ≡ claim_step c y
 unfolding claim_step
 claim_alone c x y l a = rw (l, a)
 
@@ -63,7 +63,7 @@ over_two c a b h =
     ∙ rw (made_is reader claim_step start a))
 
 -- no more lines than bytes
-lines_over : (c : Sofar) (xs : List Line-read) → (over claim_step c xs).lines ≤ c.lines + length xs
+lines_over : (c : Sofar) (xs : List LineReading) → (over claim_step c xs).lines ≤ c.lines + length xs
 unfolding over
 lines_over c [] = omega arith
 lines_over c (x ∷ xs) = omega (arith, lines_over (claim_step c x) xs, lines_most c x)

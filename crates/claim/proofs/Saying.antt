@@ -6,7 +6,7 @@ use Rattle.text.proofs.Prelude.{never}
 use native.Mathlib.Nat.{add-zero}
 use lib.Seq.{take-add}
 use Rattle.igc_log.specs.Fold.{over}
-use Rattle.walk.specs.Readings.{Line-read}
+use Rattle.walk.specs.Readings.{LineReading}
 use Rattle.claim_line.specs.Asked.{asked_of}
 use Rattle.claim_line.specs.declared.Asked.{Asked}
 use Rattle.claim.specs.Rules.{is_none, holds, breaks}
@@ -58,7 +58,7 @@ picked_low : (r q : Rule) → order_of (pick true r q) ≤ order_of r
 unfolding pick
 picked_low r q = omega arith
 
-module _ (xs : List Line-read) where
+module _ (xs : List LineReading) where
   -- none that fails stands before it in the order
   broken_low : (q : Rule) → holds q xs ≡ false → order_of (first_broken xs) ≤ order_of q
   unfolding first_broken order_of
@@ -107,19 +107,19 @@ module _ (xs : List Line-read) where
 -- ---- the line that breaks it
 
 -- the first n + 1 lines are the first n and the next
-take_next : (xs : List Line-read) (n : ℕ) (x : Line-read) (later : List Line-read) → drop n xs ≡ x ∷ later →
+take_next : (xs : List LineReading) (n : ℕ) (x : LineReading) (later : List LineReading) → drop n xs ≡ x ∷ later →
     take (n + 1) xs ≡ take n xs ++ (x ∷ [])
 take_next xs n x later e = take-add n 1 xs ∙ rw e
 
 -- so far a rule holds that holds of all that are fewer, from 1 on
-so_far : (xs : List Line-read) (n : ℕ) (r : Rule) → (1 ≤ n → holds r (take n xs) ≡ true) →
+so_far : (xs : List LineReading) (n : ℕ) (r : Rule) → (1 ≤ n → holds r (take n xs) ≡ true) →
     (is_none (take n xs) ∨? holds r (take n xs)) ≡ true
 unfolding is_none ◌=?◌ ◌∨?◌ pick
 so_far xs zero r h = refl
 so_far xs (suc n) r h = rw (h (omega arith)) (∨?-true (is_none (take (suc n) xs)))
 
-breaks_there : (xs : List Line-read) (n : ℕ) (r : Rule) → (1 ≤ n → holds r (take n xs) ≡ true) →
-    holds r (take (n + 1) xs) ≡ false → (x : Line-read) (later : List Line-read) → drop n xs ≡ x ∷ later →
+breaks_there : (xs : List LineReading) (n : ℕ) (r : Rule) → (1 ≤ n → holds r (take n xs) ≡ true) →
+    holds r (take (n + 1) xs) ≡ false → (x : LineReading) (later : List LineReading) → drop n xs ≡ x ∷ later →
     breaks r (take n xs) x ≡ true
 breaks_there xs n r h f x later e =
     let w : holds r (take n xs ++ (x ∷ [])) ≡ false = rw (take_next xs n x later e) at f in
@@ -128,7 +128,7 @@ breaks_there xs n r h f x later e =
 -- ---- the verdict
 
 -- the line that a no names, and that one fails there
-failing : (xs : List Line-read) → all_hold xs ≡ false →
+failing : (xs : List LineReading) → all_hold xs ≡ false →
     (failing_line xs ≤ max 1 (length xs)) × (all_hold (take (failing_line xs) xs) ≡ false)
 unfolding failing_line least_not
 failing [] h = (omega arith, h)
@@ -137,26 +137,26 @@ failing (x ∷ ys) h =
     let l = least_fails (λ k. all_hold (take k (x ∷ ys))) 1 (length ys) (rw whole h) in
     (omega (arith, l.0), l.1)
 
-no_is : (xs : List Line-read) → all_hold xs ≡ false →
+no_is : (xs : List LineReading) → all_hold xs ≡ false →
     Verdict.No (failing_line xs) (first_broken (take (failing_line xs) xs)) ≡ claim_of xs
 unfolding claim_of
 no_is xs h = second _ h refl
 
-yes_is : (xs : List Line-read) → all_hold xs ≡ true → Verdict.Yes ≡ claim_of xs
+yes_is : (xs : List LineReading) → all_hold xs ≡ true → Verdict.Yes ≡ claim_of xs
 unfolding claim_of
 yes_is xs h = first _ h refl
 
-says_yes : (xs : List Line-read) → claim_of xs ≡ Verdict.Yes → all_hold xs ≡ true
+says_yes : (xs : List LineReading) → claim_of xs ≡ Verdict.Yes → all_hold xs ≡ true
 unfolding is_yes
 says_yes xs e =
     by_test (all_hold xs) (λ h. h) (λ h. let z : false ≡ true = ap is_yes (no_is xs h ∙ e) in never z refl)
 
-says_no : (xs : List Line-read) (k : ℕ) (r : Rule) → claim_of xs ≡ Verdict.No k r → all_hold xs ≡ false
+says_no : (xs : List LineReading) (k : ℕ) (r : Rule) → claim_of xs ≡ Verdict.No k r → all_hold xs ≡ false
 unfolding is_yes
 says_no xs k r e =
     by_test (all_hold xs) (λ h. let z : true ≡ false = ap is_yes (yes_is xs h ∙ e) in never refl z) (λ h. h)
 
-names_first : (xs : List Line-read) (k : ℕ) (r : Rule) → claim_of xs ≡ Verdict.No k r → NamesFirst xs k r
+names_first : (xs : List LineReading) (k : ℕ) (r : Rule) → claim_of xs ≡ Verdict.No k r → NamesFirst xs k r
 unfolding failing_line
 names_first xs k r e =
     let n = says_no xs k r e in
@@ -182,7 +182,7 @@ names_first xs k r e =
 
 -- ---- what follows
 
-over_append : (c : Sofar) (xs ys : List Line-read) →
+over_append : (c : Sofar) (xs ys : List LineReading) →
     over claim_step c (xs ++ ys) ≡ over claim_step (over claim_step c xs) ys
 unfolding over
 over_append c [] ys = refl
@@ -197,14 +197,14 @@ unfolding judged passed failed pick
 some_judged c l =
     by_test (is_yes (line_verdict_of c l)) (λ e. rw e (λ h. omega arith)) (λ e. rw e (λ h. never h e))
 
-some_after : (c : Sofar) (x : Line-read) → Some (claim_step c x)
+some_after : (c : Sofar) (x : LineReading) → Some (claim_step c x)
 unfolding claim_step pick
 some_after c x =
     by_test (is_yes c.verdict)
     (λ e. rw e (some_judged c (asked_of x.line x.answer)))
     (λ e. rw e (λ h. never h e))
 
-some_over : (c : Sofar) (xs : List Line-read) → Some c → Some (over claim_step c xs)
+some_over : (c : Sofar) (xs : List LineReading) → Some c → Some (over claim_step c xs)
 unfolding over
 some_over c [] s = s
 some_over c (x ∷ xs) s = some_over (claim_step c x) xs (some_after c x)
@@ -220,7 +220,7 @@ of_line c k r s e =
     never refl z)
     (λ h. h)
 
-stays : (xs ys : List Line-read) (k : ℕ) (r : Rule) → 1 ≤ length xs → claim_of xs ≡ Verdict.No k r →
+stays : (xs ys : List LineReading) (k : ℕ) (r : Rule) → 1 ≤ length xs → claim_of xs ≡ Verdict.No k r →
     claim_of (xs ++ ys) ≡ Verdict.No k r
 unfolding over
 stays [] ys k r h e = let f : ⊥ = omega arith in absurd f

@@ -5,7 +5,7 @@ use Rattle.igc_log.specs.Log.{readings}
 use Rattle.igc_log.specs.Fold.{over, fresh}
 use Rattle.igc_log.proofs.Pieces.{made_is, all_read}
 use Rattle.igc_log.proofs.Reached.{settled}
-use Rattle.walk.specs.Readings.{Line-read, reader}
+use Rattle.walk.specs.Readings.{LineReading, reader}
 use Rattle.walk.proofs.Turns.{Made}
 use Rattle.claim_line.specs.Asked.{asked_of}
 use Rattle.claim_line.specs.declared.Asked.{Asked}
@@ -13,18 +13,18 @@ use Rattle.claim.specs.Step.{is_yes, line_verdict_of, passed, failed, judged, cl
 use Rattle.claim.specs.declared.Sofar.{Sofar}
 
 -- a no stays
-pub no_stays : (c : Sofar) (x : Line-read) → is_yes c.verdict ≡ false → claim_step c x ≡ c
+pub no_stays : (c : Sofar) (x : LineReading) → is_yes c.verdict ≡ false → claim_step c x ≡ c
 unfolding claim_step
 no_stays c x n = sym (second _ n refl)
 
 -- whatever follows
-pub no_stays_over : (c : Sofar) (xs : List Line-read) → is_yes c.verdict ≡ false → over claim_step c xs ≡ c
+pub no_stays_over : (c : Sofar) (xs : List LineReading) → is_yes c.verdict ≡ false → over claim_step c xs ≡ c
 unfolding over
 no_stays_over c [] n = refl
 no_stays_over c (x ∷ xs) n = rw (no_stays c x n) (no_stays_over c xs n)
 
 -- the next line is judged where all before it passed
-pub next_judged : (c : Sofar) {r : Sofar} {l : Asked} (x : Line-read) → is_yes c.verdict ≡ true →
+pub next_judged : (c : Sofar) {r : Sofar} {l : Asked} (x : LineReading) → is_yes c.verdict ≡ true →
     r ≡ judged c l → l ≡ asked_of x.line x.answer → r ≡ claim_step c x
 unfolding claim_step
 next_judged c x y e a = first _ y (e ∙ ap (judged c) a)
@@ -34,7 +34,7 @@ judged_most : (c : Sofar) (l : Asked) → (judged c l).lines ≤ c.lines + 1
 unfolding judged passed failed pick
 judged_most c l = by_test (is_yes (line_verdict_of c l)) (λ e. rw e (omega arith)) (λ e. rw e (omega arith))
 
-pub lines_most : (c : Sofar) (x : Line-read) → (claim_step c x).lines ≤ c.lines + 1
+pub lines_most : (c : Sofar) (x : LineReading) → (claim_step c x).lines ≤ c.lines + 1
 unfolding claim_step pick
 lines_most c x =
     by_test (is_yes c.verdict) (λ e. rw e (judged_most c (asked_of x.line x.answer))) (λ e. rw e (omega arith))

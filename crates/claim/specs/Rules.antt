@@ -8,7 +8,7 @@ use Rattle.records.specs.Record.{answer_fix}
 use Rattle.records.specs.declared.MaybeFix.{MaybeFix}
 use Rattle.report.specs.Figures.{earlier}
 use Rattle.report.specs.Report.{time_at, shown}
-use Rattle.walk.specs.Readings.{Line-read}
+use Rattle.walk.specs.Readings.{LineReading}
 use Rattle.claim_line.specs.Asked.{is_accepted_of, is_book_of}
 use Rattle.claim.specs.declared.verdict.Rule.{Rule}
 
@@ -41,11 +41,11 @@ module _ {X : Type 0} where
 -- ---- what is asked of a line (whether it is accepted and by the book: `claim_line`)
 
 -- A line of a letter is one that begins so, accepted or not.
-unfoldable pub is_line : ℕ → Line-read → Bool
+unfoldable pub is_line : ℕ → LineReading → Bool
 is_line letter x = begins letter x.line
 
 -- Its text has at most 76 bytes. The LF that ends the line, and the one CR directly before it, are not of its text.
-unfoldable pub is_short : Line-read → Bool
+unfoldable pub is_short : LineReading → Bool
 is_short x = length x.line ≤? 76
 
 -- ---- times
@@ -61,23 +61,23 @@ steps_back [] = 0
 steps_back (t ∷ ts) = backs_after t ts
 
 -- The seconds since midnight of the accepted B lines, in order.
-unfoldable pub times_of : List Line-read → List ℕ
+unfoldable pub times_of : List LineReading → List ℕ
 times_of xs = shown time_at xs
 
 -- ---- the rules
 
 -- The first line is an A line; where there are no lines, none is.
-unfoldable pub first_is_a : List Line-read → Bool
+unfoldable pub first_is_a : List LineReading → Bool
 first_is_a [] = false
 first_is_a (x ∷ xs) = is_line (code "A") x
 
 -- There is at most one line of a letter, and none of it behind a B line.
-unfoldable pub once_before_b : ℕ → List Line-read → Bool
+unfoldable pub once_before_b : ℕ → List LineReading → Bool
 once_before_b letter xs =
     (how_many (is_line letter) xs ≤? 1) ∧? none_behind (is_line letter) (is_line (code "B")) xs
 
 -- What a rule says of all readings of a log.
-unfoldable pub holds : Rule → List Line-read → Bool
+unfoldable pub holds : Rule → List LineReading → Bool
 holds Rule.First xs = first_is_a xs
 holds Rule.Table xs = once_before_b (code "I") xs ∧? once_before_b (code "J") xs
 holds Rule.Long xs = every is_short xs
@@ -93,7 +93,7 @@ last_after s [] = s
 last_after s (t ∷ ts) = last_after t ts
 
 -- The last time so far; where there is none 0, and no time is before that.
-unfoldable pub last_time : List Line-read → ℕ
+unfoldable pub last_time : List LineReading → ℕ
 last_time xs = last_after 0 (times_of xs)
 
 -- The fix of a line, if it has one, is before the time s.
@@ -102,13 +102,13 @@ goes_back_of s MaybeFix.Missing = false
 goes_back_of s (MaybeFix.Fix b) = earlier (seconds_of_lem b.timestamp) s
 
 -- A line of a letter where one of it, or a B line, stands before.
-unfoldable pub is_again_of : ℕ → List Line-read → Line-read → Bool
+unfoldable pub is_again_of : ℕ → List LineReading → LineReading → Bool
 is_again_of letter before x = is_line letter x ∧? (some (is_line letter) before ∨? some (is_line (code "B")) before)
 
 -- The line x breaks the rule, behind the lines before it: line 1 that is no A line; the second I line, or one behind a
 -- B line, and so with J; a line over 76 bytes; one that is not accepted; one not by the book; the second time that goes
 -- back.
-unfoldable pub breaks : Rule → List Line-read → Line-read → Bool
+unfoldable pub breaks : Rule → List LineReading → LineReading → Bool
 breaks Rule.First before x = is_none before ∧? not (is_line (code "A") x)
 breaks Rule.Table before x = is_again_of (code "I") before x ∨? is_again_of (code "J") before x
 breaks Rule.Long before x = not (is_short x)

@@ -4,7 +4,7 @@ use Rattle.text.specs.Prelude.{ℕ, Bool, true, false, not, List, length, pick, 
 use Rattle.igc_log.specs.Log.{readings}
 use Rattle.igc_log.specs.Fold.{over}
 use Rattle.report.specs.Figures.{earlier}
-use Rattle.walk.specs.Readings.{Line-read, reader}
+use Rattle.walk.specs.Readings.{LineReading, reader}
 use Rattle.claim_line.specs.Asked.{asked_of}
 use Rattle.claim_line.specs.declared.{MaybeSecond.MaybeSecond, Asked.Asked}
 use Rattle.claim.specs.declared.{verdict.Rule.Rule, verdict.Verdict.Verdict, Sofar.Sofar}
@@ -94,7 +94,7 @@ unfoldable pub judged : Sofar → Asked → Sofar
 judged c line = pick (is_yes (line_verdict_of c line)) (passed c line) (failed c (line_verdict_of c line))
 
 -- After one reading more: a no stays.
-unfoldable pub claim_step : Sofar → Line-read → Sofar
+unfoldable pub claim_step : Sofar → LineReading → Sofar
 claim_step c x = pick (is_yes c.verdict) (judged c (asked_of x.line x.answer)) c
 
 -- ---- a log

@@ -4,7 +4,7 @@ use Rattle.text.proofs.Prelude.{refl}
 use Rattle.part.specs.Part.{part_bytes}
 use Rattle.records.specs.Record.{reading_res}
 use Rattle.walk.specs.Turn.{got_at}
-use Rattle.walk.specs.Readings.{Line-read}
+use Rattle.walk.specs.Readings.{LineReading}
 use Rattle.walk.specs.declared.turn.Got.{Got}
 use Rattle.walk.proofs.Laws.{viewed}
 use Rattle.walk.proofs.Turns as turns
@@ -19,10 +19,10 @@ pub asks : (s : List ℕ) (at : ℕ) {l : List ℕ} {g : Got} {x : Asked} →
 unfolding got_at asked_at_of
 asks s at e v a = rw (a, v, e, viewed _)
 
-module _ {T : Type 0} {step : T → Line-read → T} {a₀ a : T} {s : List ℕ} {at : ℕ} {g : AskedAt}
+module _ {T : Type 0} {step : T → LineReading → T} {a₀ a : T} {s : List ℕ} {at : ℕ} {g : AskedAt}
     (i : at < length s) (m : Made step a₀ s at a) (e : g ≡ asked_at_of at s) where
   -- the line here, with a' made of it
-  pub line : {a' : T} → ((x : Line-read) → g.asked ≡ asked_of x.line x.answer → a' ≡ step a x) →
+  pub line : {a' : T} → ((x : LineReading) → g.asked ≡ asked_of x.line x.answer → a' ≡ step a x) →
       Made step a₀ s g.next a'
   unfolding got_at asked_at_of
   line k = rw e (turns.line {g = got_at at s} i m refl (λ n h. k (got_read (got_at at s) s n at h) (rw (e, viewed _))))

@@ -8,7 +8,7 @@ use Rattle.record_print.specs.Printed.{record_piece}
 use Rattle.igc_log.specs.Log.{readings}
 use Rattle.igc_log.specs.Fold.{texts}
 use Rattle.held.specs.declared.tables.Tables.{Tables}
-use Rattle.walk.specs.Readings.{Line-read, reader}
+use Rattle.walk.specs.Readings.{LineReading, reader}
 use Rattle.listing_text.specs.Line.{head_text}
 use Rattle.piece_text.specs.Piece.{byte_shown}
 use Rattle.record_text.specs.Record.{record_shown}
@@ -42,7 +42,7 @@ unfoldable pub fields_line : ℕ → List ℕ → Res Record → Tables → List
 fields_line n s m h names = head_text n s m ++ (fields_shown m h names s ++ (LF ∷ []))
 
 -- The line of a reading, with the names asked for.
-unfoldable pub fields_of : List ℕ → Line-read → List ℕ
+unfoldable pub fields_of : List ℕ → LineReading → List ℕ
 fields_of names x = fields_line x.number x.line x.answer x.held names
 
 -- What is shown of a log: a line for each reading of a fresh walk.

@@ -3,16 +3,16 @@ use Rattle.std.specs.Prelude.{◌+◌, ◌*◌, ◌≤◌, ◌++◌}
 use Rattle.text.specs.Prelude.{ℕ, List, length, largest}
 use Rattle.igc_log.specs.Log.{readings}
 use Rattle.igc_log.specs.Fold.{over, texts}
-use Rattle.walk.specs.Readings.{Line-read, reader}
+use Rattle.walk.specs.Readings.{LineReading, reader}
 use Rattle.trailer_text.specs.Trailer.{nothing, count_step, trailer_text_of}
 use Rattle.listing_text.specs.Line.{listing_line}
 
 -- The line of the listing for a reading.
-unfoldable pub line_of : Line-read → List ℕ
+unfoldable pub line_of : LineReading → List ℕ
 line_of x = listing_line x.number x.line x.answer
 
 -- What is listed of a walk's readings.
-unfoldable pub listed : List Line-read → List ℕ
+unfoldable pub listed : List LineReading → List ℕ
 listed xs = texts line_of xs ++ trailer_text_of (over count_step nothing xs)
 
 -- The listing of a log.

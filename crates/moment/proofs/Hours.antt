@@ -10,7 +10,7 @@ use Rattle.records.specs.Record.{answer_fix, reading_res}
 use Rattle.records.specs.declared.MaybeFix.{MaybeFix}
 use Rattle.igc_log.specs.Log.{readings}
 use Rattle.igc_log.specs.Fold.{over, or_else, first_with, keep}
-use Rattle.walk.specs.Readings.{Line-read, reader}
+use Rattle.walk.specs.Readings.{LineReading, reader}
 use Rattle.walk.specs.Turn.{got_at}
 use Rattle.walk.specs.declared.turn.Got.{Got}
 use Rattle.walk.proofs.Turns.{Made, at_start, at_end, line, near}
@@ -102,7 +102,7 @@ module _ (f : ℕ → Option ℕ) (p : ℕ) (m : MaybeFix) where
 -- ---- the loop
 
 -- for each hour, what was found first stays
-abbrev hour_step : (ℕ → Option ℕ) → Line-read → ℕ → Option ℕ
+abbrev hour_step : (ℕ → Option ℕ) → LineReading → ℕ → Option ℕ
 hour_step f x h = keep (hour_at h) (f h) x
 
 pub record Indexed (s : List ℕ) (at : ℕ) (i : Index) : Type 0 where
@@ -115,7 +115,7 @@ unfolding nowhere by_hour from
 indexed_start e = record { seen = λ h. none; holds = e; made = at_start }
 
 -- what each hour has found
-over_hours : (f : ℕ → Option ℕ) (xs : List Line-read) (h : ℕ) →
+over_hours : (f : ℕ → Option ℕ) (xs : List LineReading) (h : ℕ) →
     over hour_step f xs h ≡ or_else (f h) (first_with (hour_at h) xs)
 unfolding over first_with keep
 over_hours f [] h = sym (or_none (f h))

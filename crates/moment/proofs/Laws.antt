@@ -14,7 +14,7 @@ use Rattle.igc_log.specs.Log.{chunks, read_from, readings}
 use Rattle.igc_log.specs.Fold.{or_else, first_with}
 use Rattle.igc_log.proofs.Cuts.{next_gt, read_past}
 use Rattle.held.specs.declared.tables.Tables.{Tables}
-use Rattle.walk.specs.Readings.{Line-read, reader}
+use Rattle.walk.specs.Readings.{LineReading, reader}
 use Rattle.moment_fix.specs.Fix.{same_time_of, with_time_of}
 use Rattle.hours.specs.Hours.{held, held_for}
 use Rattle.hours.proofs.ByHour.{held_hour}
@@ -49,12 +49,12 @@ module _ (t : Time) where
       (λ q. ap (spot_at p) (sym (second (MaybeFix.Fix b) q refl)))
   no_time p MaybeFix.Missing e = refl
 
-  other_hour : (x : Line-read) → hour_at t.hours x ≡ none → fix_at t x ≡ none
+  other_hour : (x : LineReading) → hour_at t.hours x ≡ none → fix_at t x ≡ none
   unfolding hour_at fix_at
   other_hour x e = no_time x.place (answer_fix x.answer) e
 
   -- where no line is in the hour none has the time
-  none_in_hour : (xs : List Line-read) → first_with (hour_at t.hours) xs ≡ none → none ≡ first_with (fix_at t) xs
+  none_in_hour : (xs : List LineReading) → first_with (hour_at t.hours) xs ≡ none → none ≡ first_with (fix_at t) xs
   unfolding first_with or_else
   none_in_hour [] e = refl
   none_in_hour (x ∷ xs) e =
@@ -77,14 +77,14 @@ own_place h p (MaybeFix.Fix b) e =
     (λ k. not_some e (sym (second _ k refl)))
 own_place h p MaybeFix.Missing e = not_some e refl
 
-line_place : (h : ℕ) (x : Line-read) {q : ℕ} → hour_at h x ≡ some q → x.place ≡ q
+line_place : (h : ℕ) (x : LineReading) {q : ℕ} → hour_at h x ≡ some q → x.place ≡ q
 unfolding hour_at
 line_place h x e = own_place h x.place (answer_fix x.answer) e
 
 -- ---- the first fix of the hour, and the first with the time
 
 module _ (t : Time) (s : List ℕ) (p : ℕ) where
-  abbrev in_it : Line-read → Option ℕ
+  abbrev in_it : LineReading → Option ℕ
   in_it = hour_at t.hours
 
   -- from a line's start on: the search may as well begin at the first fix of the hour
@@ -109,7 +109,7 @@ module _ (t : Time) (s : List ℕ) (p : ℕ) where
       (leads k (n + 1) (cut_at at s).next x.held (omega (arith, next_gt s at i)) later)))
 
 module _ (log : List ℕ) (t : Time) (inside : t.hours ≤ 24) where
-  abbrev xs : List Line-read
+  abbrev xs : List LineReading
   xs = readings reader log
 
   pub found_alike : found_by t (held_for (index_of log) t.hours) log ≡ first_with (fix_at t) xs

@@ -12,7 +12,7 @@ use Rattle.igc_log.specs.Log.{chunks, read_from}
 use Rattle.igc_log.specs.Fold.{or_else, first_with}
 use Rattle.igc_log.proofs.Cuts.{next_gt, next_le, cut_viewed, read_past, read_line}
 use Rattle.held.specs.declared.tables.Tables.{Tables}
-use Rattle.walk.specs.Readings.{Line-read, reader}
+use Rattle.walk.specs.Readings.{LineReading, reader}
 use Rattle.walk.specs.Turn.{got_at}
 use Rattle.walk.specs.declared.turn.Got.{Got}
 use Rattle.walk.proofs.Laws.{viewed}
@@ -20,16 +20,16 @@ use Rattle.moment_fix.specs.Fix.{with_time_of}
 use Rattle.moment.specs.Moment.{spot_at, fix_at, found_from}
 
 -- what is read from a place on, with n lines before it and the tables t
-abbrev pub read_here : List ℕ → ℕ → ℕ → Tables → List Line-read
+abbrev pub read_here : List ℕ → ℕ → ℕ → Tables → List LineReading
 read_here s n at t = read_from reader n at t (chunks (drop at s))
 
 -- the line there
-abbrev pub line_here : List ℕ → ℕ → ℕ → Tables → Line-read
+abbrev pub line_here : List ℕ → ℕ → ℕ → Tables → LineReading
 line_here s n at t =
     let l = bytes_of (cut_at at s).line s in
     record { number = n + 1; place = at; line = l; answer = read_line_of l; held = reader.after at t l }
 
-module _ {A : Type 0} (f : Line-read → Option A) (s : List ℕ) (n at : ℕ) (t : Tables) where
+module _ {A : Type 0} (f : LineReading → Option A) (s : List ℕ) (n at : ℕ) (t : Tables) where
   -- the first line that has something is the one here, or stands behind it
   pub first_here : at < length s → first_with f (read_here s n at t) ≡
       or_else (f (line_here s n at t))

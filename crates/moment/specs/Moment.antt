@@ -7,7 +7,7 @@ use Rattle.records.specs.Record.{answer_fix}
 use Rattle.records.specs.declared.MaybeFix.{MaybeFix}
 use Rattle.igc_log.specs.Log.{chunks, read_from, readings}
 use Rattle.igc_log.specs.Fold.{first_with}
-use Rattle.walk.specs.Readings.{Line-read, reader}
+use Rattle.walk.specs.Readings.{LineReading, reader}
 use Rattle.moment_fix.specs.Fix.{with_time_of}
 use Rattle.moment_fix.specs.declared.Moment.{Moment}
 use Rattle.hours.specs.Hours.{by_hour, held_for}
@@ -21,7 +21,7 @@ in_hour h p (MaybeFix.Fix b) = pick (b.timestamp.hours =? h) (some p) none
 in_hour h p MaybeFix.Missing = none
 
 -- The place of a reading that is an accepted B line with hours h.
-unfoldable pub hour_at : ℕ → Line-read → Option ℕ
+unfoldable pub hour_at : ℕ → LineReading → Option ℕ
 hour_at h x = in_hour h x.place (answer_fix x.answer)
 
 -- For each hour the place of the first accepted B line of the log in that hour, or none.
@@ -41,7 +41,7 @@ spot_at p (MaybeFix.Fix b) = some (record { place = p; fix = b })
 spot_at p MaybeFix.Missing = none
 
 -- Place and record of a reading that is an accepted B line with that time.
-unfoldable pub fix_at : Time → Line-read → Option Spot
+unfoldable pub fix_at : Time → LineReading → Option Spot
 fix_at t x = spot_at x.place (with_time_of t (answer_fix x.answer))
 
 -- The first of them among the lines from the place p on. A place past the end has none behind it, and from one in the

@@ -8,7 +8,7 @@ use Rattle.records.specs.declared.{Record.Record, MaybeFix.MaybeFix}
 use Rattle.igc_log.specs.Log.{readings}
 use Rattle.igc_log.specs.Fold.{texts}
 use Rattle.held.specs.declared.tables.Tables.{Tables}
-use Rattle.walk.specs.Readings.{Line-read, reader}
+use Rattle.walk.specs.Readings.{LineReading, reader}
 use Rattle.finer.specs.Finer.{finer_position, finer_number, finer_place}
 use Rattle.finer.specs.declared.{FinerCoord.FinerCoord, FinerLatitude.FinerLatitude, FinerLongitude.FinerLongitude}
 use Rattle.finer.specs.declared.FinerPositionRead.{FinerPositionRead}
@@ -53,7 +53,7 @@ unfoldable pub positions_line : ℕ → List ℕ → Res Record → Tables → L
 positions_line n s m h = maybe_shown n s h (answer_fix m)
 
 -- The line of a reading.
-unfoldable pub positions_of : Line-read → List ℕ
+unfoldable pub positions_of : LineReading → List ℕ
 positions_of x = positions_line x.number x.line x.answer x.held
 
 -- What is shown of a log: a line for each accepted fix of a fresh walk.

@@ -18,7 +18,7 @@ use Rattle.igc_log.proofs.Taking.{Left, left_all, left_none, left_full, left_lin
 use Rattle.igc_log.proofs.Taking.{took_called, none_called}
 use Rattle.held.specs.declared.tables.Tables.{Tables}
 use Rattle.walk.specs.Turn.{got_at}
-use Rattle.walk.specs.Readings.{Line-read, reader}
+use Rattle.walk.specs.Readings.{LineReading, reader}
 use Rattle.walk.specs.declared.turn.Got.{Got}
 use Rattle.walk.proofs.Turns.{got_read, cut_of, answer_of, turn, text_turn, cut_here}
 use Rattle.trailer_text.specs.Trailer.{counted, tallied, count_step}
@@ -29,7 +29,7 @@ use Rattle.products.specs.Feed.{view, is_ready_of, FedOf, Feeds}
 use Rattle.products.specs.declared.{Product.Product, Carried.Carried, Fed.Fed}
 
 -- A line raises the count of lines by one.
-pub one_line_fed : (t : Trailer) (x : Line-read) → (count_step t x).lines ≤ t.lines + 1
+pub one_line_fed : (t : Trailer) (x : LineReading) → (count_step t x).lines ≤ t.lines + 1
 unfolding count_step counted
 one_line_fed t x = omega arith
 

@@ -5,7 +5,7 @@ use Rattle.records.specs.declared.Record.{Record}
 use Rattle.igc_log.specs.Log.{readings}
 use Rattle.igc_log.specs.Fold.{over, texts}
 use Rattle.held.specs.declared.tables.Tables.{Tables}
-use Rattle.walk.specs.Readings.{Line-read, reader}
+use Rattle.walk.specs.Readings.{LineReading, reader}
 use Rattle.trailer_text.specs.Trailer.{nothing, count_step, trailer_text_of}
 use Rattle.trailer_text.specs.declared.Trailer.{Trailer}
 use Rattle.listing_text.specs.Line.{listing_line}
@@ -21,7 +21,7 @@ product_line Fields names n s m h = fields_line n s m h names
 product_line Positions names n s m h = positions_line n s m h
 
 -- The line of a reading.
-unfoldable pub product_line_of : Product → List ℕ → Line-read → List ℕ
+unfoldable pub product_line_of : Product → List ℕ → LineReading → List ℕ
 product_line_of p names x = product_line p names x.number x.line x.answer x.held
 
 -- What closes the text: a listing's trailer.

@@ -7,7 +7,7 @@ use Rattle.records.specs.Record.{answer_fix}
 use Rattle.records.specs.declared.MaybeFix.{MaybeFix}
 use Rattle.igc_log.specs.Log.{readings}
 use Rattle.igc_log.specs.Fold.{or_else, first_with}
-use Rattle.walk.specs.Readings.{Line-read, reader}
+use Rattle.walk.specs.Readings.{LineReading, reader}
 use Rattle.moment_fix.specs.Fix.{same_time_of, with_time_of}
 use Rattle.moment_fix.specs.declared.Moment.{Moment}
 use Rattle.moment.specs.Moment.{spot_at, fix_at, found, asked, by_walk}
@@ -15,11 +15,11 @@ use Rattle.moment.proofs.Laws.{moments}
 use Rattle.promises.specs.Moments.{Has, Hasnt, here, later, Tells, Moments}
 
 -- a fix has the time exactly where the test says so
-has_same : {t : Time} {x : Line-read} {b : BRecord} → Has t x b → same_time_of b.timestamp t ≡ true
+has_same : {t : Time} {x : LineReading} {b : BRecord} → Has t x b → same_time_of b.timestamp t ≡ true
 unfolding same_time_of
 has_same h = and (yes= h.hours) (and (yes= h.minutes) (yes= h.seconds))
 
-same_has : (t : Time) (x : Line-read) (b : BRecord) → answer_fix x.answer ≡ MaybeFix.Fix b →
+same_has : (t : Time) (x : LineReading) (b : BRecord) → answer_fix x.answer ≡ MaybeFix.Fix b →
     same_time_of b.timestamp t ≡ true → Has t x b
 unfolding same_time_of
 same_has t x b e q = record {
@@ -30,20 +30,20 @@ same_has t x b e q = record {
 }
 
 -- a line without that time in front changes no answer
-passed : (t : Time) (x : Line-read) (xs : List Line-read) → Hasnt t x → (a : Moment) → Tells t xs a →
+passed : (t : Time) (x : LineReading) (xs : List LineReading) → Hasnt t x → (a : Moment) → Tells t xs a →
     Tells t (x ∷ xs) a
 passed t x xs n (Moment.Found p b) h = later n h
 passed t x xs n Moment.NoSuchFix h = (n, h)
 passed t x xs n (Moment.Refused r) h = h
 
 -- a line that is no fix has no time
-no_fix : {t : Time} {x : Line-read} → answer_fix x.answer ≡ MaybeFix.Missing → Hasnt t x
+no_fix : {t : Time} {x : LineReading} → answer_fix x.answer ≡ MaybeFix.Missing → Hasnt t x
 no_fix e b h =
     let q : MaybeFix.Missing ≡ MaybeFix.Fix b = sym e ∙ h.fix in
     let z : ◌≡◌ {A = ℕ} 0 1 = cc in omega arith
 
 -- and a fix with another time has not this one
-other_time : {t : Time} {x : Line-read} (b : BRecord) → answer_fix x.answer ≡ MaybeFix.Fix b →
+other_time : {t : Time} {x : LineReading} (b : BRecord) → answer_fix x.answer ≡ MaybeFix.Fix b →
     same_time_of b.timestamp t ≡ false → Hasnt t x
 other_time {t} b e q c h =
     let same : MaybeFix.Fix b ≡ MaybeFix.Fix c = sym e ∙ h.fix in
@@ -51,7 +51,7 @@ other_time {t} b e q c h =
     never (rw own (has_same h)) q
 
 -- the line x, read as m, in front of readings of which an answer tells
-in_front : (t : Time) (x : Line-read) (xs : List Line-read) (m : MaybeFix) → answer_fix x.answer ≡ m →
+in_front : (t : Time) (x : LineReading) (xs : List LineReading) (m : MaybeFix) → answer_fix x.answer ≡ m →
     Tells t xs (found (first_with (fix_at t) xs)) →
     Tells t (x ∷ xs) (found (or_else (spot_at x.place (with_time_of t m)) (first_with (fix_at t) xs)))
 unfolding with_time_of spot_at or_else found pick
@@ -61,7 +61,7 @@ in_front t x xs (MaybeFix.Fix b) e h =
     (λ q. rw q (here refl (same_has t x b e q)))
     (λ q. rw q (passed t x xs (other_time b e q) (found (first_with (fix_at t) xs)) h))
 
-pub tells : (t : Time) (xs : List Line-read) → Tells t xs (found (first_with (fix_at t) xs))
+pub tells : (t : Time) (xs : List LineReading) → Tells t xs (found (first_with (fix_at t) xs))
 unfolding first_with found fix_at
 tells t [] = tt
 tells t (x ∷ xs) = in_front t x xs (answer_fix x.answer) refl (tells t xs)

@@ -13,7 +13,7 @@ use Rattle.igc_log.proofs.Replaced.{demand_3}
 use Rattle.held.specs.Held.{no_table, spoiled, set_by_of}
 use Rattle.held.specs.Tables.{no_tables}
 use Rattle.held.proofs.Lookups.{look_never, look_spoiled, refused_spoils}
-use Rattle.walk.specs.Readings.{reader, Line-read}
+use Rattle.walk.specs.Readings.{reader, LineReading}
 use Rattle.promises.specs.Demand3.{Extended, i_on_b, j_on_k, ValuesStay, NoValues, NoneAccepted, Values, after_run}
 use Rattle.promises.specs.Demand3.{Demand3}
 
@@ -26,7 +26,7 @@ module _ {R : Type 0} (E : Extended R) (leaves : (s : List ℕ) → E.named.leav
     read_line_of s ≡ ok line)
     (fresh-none : E.named.view no_tables ≡ no_table) where
   -- the table and the text agree, so each lookup does
-  values_stay : (n₁ n₂ p₁ p₂ : ℕ) (same : Bool) (xs ys : List Line-read) →
+  values_stay : (n₁ n₂ p₁ p₂ : ℕ) (same : Bool) (xs ys : List LineReading) →
       Each reader (Moved reader n₁ n₂ p₁ p₂) xs ys →
       Kept reader E.named same xs ys → ValuesStay E same xs ys
   values_stay n₁ n₂ p₁ p₂ same [] [] m k = tt
@@ -51,7 +51,7 @@ module _ {R : Type 0} (E : Extended R) (leaves : (s : List ℕ) → E.named.leav
   all_spoil (c ∷ cs) h = ((λ b. spoils (line_text c) (h.0 b) b), all_spoil cs h.1)
 
   -- where nothing or what a refused line leaves is in force, every lookup is 13 or 14
-  no_values : (seen : Bool) (xs : List Line-read) → Turns reader E.named spoiled seen xs → NoValues E seen xs
+  no_values : (seen : Bool) (xs : List LineReading) → Turns reader E.named spoiled seen xs → NoValues E seen xs
   no_values seen [] h = tt
   no_values seen (x ∷ xs) h =
       let b = seen ∨? E.named.begins x.line in (

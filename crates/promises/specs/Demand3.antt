@@ -1,6 +1,6 @@
 -- Demand 3, for this reader, its fresh walks and its lookups by name.
 --
--- What of a walk's state is compared: its place, its line number and its tables, which is what a `Line-read` has of it
+-- What of a walk's state is compared: its place, its line number and its tables, which is what a `LineReading` has of it
 -- (`walk` Readings `read_by`). The report that it keeps is left out (K8): a replaced fix may have been the summit.
 use Rattle.std.specs.Prelude.{◌+◌, ◌≡◌, ◌∷◌, ◌++◌}
 use Rattle.text.specs.Prelude.{ℕ, Bool, true, not, List, [], length, take, drop, Res, ok, no}
@@ -17,7 +17,7 @@ use Rattle.igc_log.specs.Log.{chunks, closed, readings, Letter}
 use Rattle.igc_log.specs.Demand.{Moved, Each, some}
 use Rattle.held.specs.Held.{look_up}
 use Rattle.held.specs.declared.Held.{Held}
-use Rattle.walk.specs.Readings.{reader, letter_i, letter_j, Line-read}
+use Rattle.walk.specs.Readings.{reader, letter_i, letter_j, LineReading}
 
 -- A kind of record with extension values: the lines that name them and the table which those leave, how many fixed
 -- columns the record has, and its rest.
@@ -36,21 +36,21 @@ abbrev pub j_on_k : Extended KRecord
 j_on_k = record { named = letter_j; base = 7; kind = λ r. Record.K r; rest = λ r. r.rest }
 
 -- The readings of the lines after a run that stands behind the lines `pre`.
-abbrev pub after_run : List ℕ → List ℕ → List ℕ → List Line-read
+abbrev pub after_run : List ℕ → List ℕ → List ℕ → List LineReading
 after_run pre run post = drop (length (chunks pre) + length (chunks run)) (readings reader (pre ++ (run ++ post)))
 
 module _ {R : Type 0} (E : Extended R) where
   -- Lookup by name on a line that was answered with the record r, in the table in force there.
-  abbrev pub value_on : R → Mnemonic → Line-read → Res Part
+  abbrev pub value_on : R → Mnemonic → LineReading → Res Part
   value_on r name x = look_up E.base (E.rest r) (E.named.view x.held) name x.line
 
   -- On an accepted line of the kind every lookup by name answers in x what it answers in y.
-  abbrev pub SameValues : Line-read → Line-read → Type 0
+  abbrev pub SameValues : LineReading → LineReading → Type 0
   SameValues x y = (r : R) (name : Mnemonic) → x.answer ≡ ok (E.kind r) → value_on r name x ≡ value_on r name y
 
   -- Where `stay` holds these lines keep their extension values; else they do from the next line on that begins with the
   -- letter.
-  abbrev pub ValuesStay : Bool → List Line-read → List Line-read → Type 0
+  abbrev pub ValuesStay : Bool → List LineReading → List LineReading → Type 0
   ValuesStay stay [] [] = Unit
   ValuesStay stay [] (y ∷ ys) = ⊥
   ValuesStay stay (x ∷ xs) [] = ⊥
@@ -67,7 +67,7 @@ module _ {R : Type 0} (E : Extended R) where
 
   -- On every accepted line of the kind every lookup by name is refused: with 13 where no line up to there begins with
   -- the letter, and with 14 otherwise. `seen` says whether one stands before these lines.
-  abbrev pub NoValues : Bool → List Line-read → Type 0
+  abbrev pub NoValues : Bool → List LineReading → Type 0
   NoValues seen [] = Unit
   NoValues seen (x ∷ xs) =
       ((r : R) (name : Mnemonic) → x.answer ≡ ok (E.kind r) →

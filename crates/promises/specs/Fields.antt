@@ -7,7 +7,7 @@ use Rattle.record_print.specs.Printed.{record_piece, reprinted}
 use Rattle.igc_log.specs.Log.{readings}
 use Rattle.igc_log.specs.Fold.{texts}
 use Rattle.held.specs.declared.tables.Tables.{Tables}
-use Rattle.walk.specs.Readings.{Line-read, reader}
+use Rattle.walk.specs.Readings.{LineReading, reader}
 use Rattle.listing_text.specs.Line.{head_text}
 use Rattle.record_text.specs.Record.{record_shown}
 use Rattle.fields_text.specs.Line.{book_shown, printed_shown, place_shown, fields_text_of}
@@ -20,7 +20,7 @@ fields_as (ok r) (no n) h names s = []
 fields_as (no n) printed h names s = place_shown n
 
 -- A line of `fields`, with the line read and printed again in it.
-unfoldable pub line_as : List ℕ → Line-read → List ℕ
+unfoldable pub line_as : List ℕ → LineReading → List ℕ
 line_as names x =
     head_text x.number x.line x.answer
     ++ (fields_as x.answer (reprinted x.line) x.held names x.line ++ (LF ∷ []))

@@ -15,7 +15,7 @@ use Rattle.walk.specs.Readings.{reader, walked, after_steps, at_end_of}
 use Rattle.walk.specs.declared.Walk.{Walk}
 use Rattle.walk.specs.declared.Taken.TheVariants.{Line, Done}
 use Rattle.reader.specs.Reader.{reader_at, handed_out}
-use Rattle.watch_text.specs.Watch.{Watch-read, watcher, risen}
+use Rattle.watch_text.specs.Watch.{WatchReading, watcher, risen}
 use Rattle.listing_text.specs.Listing.{listed, listing_text_of}
 
 -- So it is for every log that a machine can hold.
@@ -37,7 +37,7 @@ pub record Walks : Type 0 where
   pub end_reached : (log : List ℕ) (w : Walk) (k : ℕ) → length log ≤ k → after_steps k log w ≡ at_end_of log w
   -- What the screen holds at line k + 1 is the walk's report there, and what it says was raised is what stands higher
   -- in that than in the report a step before.
-  pub watch_rises : (log : List ℕ) → length log ≤ largest → (k : ℕ) (x : Watch-read) (later : List Watch-read) →
+  pub watch_rises : (log : List ℕ) → length log ≤ largest → (k : ℕ) (x : WatchReading) (later : List WatchReading) →
       drop k (readings watcher log) ≡ x ∷ later →
       x.held ≡ risen (figures_in (after_steps k log fresh).report) (figures_in (after_steps (k + 1) log fresh).report)
   -- What the functions of `LogReader` hand out, one after the other, are the readings of a fresh walk with their

@@ -9,7 +9,7 @@ use Rattle.records.specs.Record.{read_line_of}
 use Rattle.held.specs.Tables.{tables_after}
 use Rattle.held.specs.declared.tables.Tables.{Tables}
 use Rattle.cursor.specs.Cursor.{next_of}
-use Rattle.walk.specs.Readings.{Line-read}
+use Rattle.walk.specs.Readings.{LineReading}
 use Rattle.cursor.specs.declared.{Cursor.Cursor, Next.Next}
 use Rattle.cursor.specs.declared.Next.TheVariants.{Line, Done}
 use Rattle.reader.specs.declared.LogReader.{LogReader}
@@ -33,7 +33,7 @@ text_at place s = bytes_of (part_at place s) s
 -- ---- what is handed out
 
 -- The reading of the line that `next_line` found, in front of what is read from the cursor after it.
-unfoldable pub handed_by : List ℕ → Tables → ℕ → Next → (Cursor → List Line-read) → List Line-read
+unfoldable pub handed_by : List ℕ → Tables → ℕ → Next → (Cursor → List LineReading) → List LineReading
 handed_by s h place Done later = []
 handed_by s h place (Line cut after) later =
     record {
@@ -47,7 +47,7 @@ handed_by s h place (Line cut after) later =
 
 -- What k turns of the desk hand out, from a reader and what is held there: `next_line` finds the line, `line` shows its
 -- text, to which `Record::parse_line` answers, `tables` says what is held after it, and `moved` goes on.
-unfoldable pub handed_out : ℕ → LogReader → Tables → List Line-read
+unfoldable pub handed_out : ℕ → LogReader → Tables → List LineReading
 handed_out zero r h = []
 handed_out (suc k) r h =
     handed_by (r.log.now) h r.place (next_of (r.log.now) (cursor_of r))

@@ -14,7 +14,7 @@ use Rattle.igc_log.proofs.Reached as log
 use Rattle.igc_log.proofs.Reached.{Reached}
 use Rattle.held.specs.Tables.{no_tables}
 use Rattle.held.specs.declared.tables.Tables.{Tables}
-use Rattle.walk.specs.Readings.{Line-read, reader}
+use Rattle.walk.specs.Readings.{LineReading, reader}
 use Rattle.report.specs.Figures.{Figures}
 use Rattle.report.specs.Report.{taken_by, report_of, report_step}
 use Rattle.report.specs.declared.{pressure.PressurePeak.PressurePeak, gps.GpsPeak.GpsPeak}
@@ -42,7 +42,7 @@ module _ {A H T : Type 0} (R : Reader A H) (step : T → LineRead A H → T)
       ∙ over_same (n + 1) (n' + 1) (p + length k) x.held y.held (step a y) ks
 
 -- so does the step of a report
-report_alone : (f : Figures PressurePeak GpsPeak) (x y : Line-read) → x.place ≡ y.place → x.answer ≡ y.answer →
+report_alone : (f : Figures PressurePeak GpsPeak) (x y : LineReading) → x.place ≡ y.place → x.answer ≡ y.answer →
     report_step f x ≡ report_step f y
 unfolding report_step
 report_alone f x y p a = rw (p, a)

@@ -4,14 +4,14 @@ use Rattle.text.specs.Prelude.{ℕ, List, length, pick, ◌≤?◌, largest}
 use Rattle.igc_log.specs.Log.{chunks, read_from}
 use Rattle.igc_log.specs.Fold.{over}
 use Rattle.held.specs.Tables.{no_tables}
-use Rattle.walk.specs.Readings.{Line-read, reader}
+use Rattle.walk.specs.Readings.{LineReading, reader}
 use Rattle.report.specs.Figures.{Figures, empty}
 use Rattle.report.specs.Report.{report_step, figures_in}
 use Rattle.report.specs.declared.{pressure.PressurePeak.PressurePeak, gps.GpsPeak.GpsPeak}
 use Rattle.reported.specs.declared.Sofar.{Sofar}
 
 -- What a walk reads of some bytes that stand from a place on; no figure looks at a line's number or at what is held.
-unfoldable pub readings_at : ℕ → List ℕ → List Line-read
+unfoldable pub readings_at : ℕ → List ℕ → List LineReading
 readings_at p s = read_from reader 0 p no_tables (chunks s)
 
 -- The figures over these readings more.

@@ -50,18 +50,18 @@ unfolding signed from_all_of ◌=?◌ ◌∧?◌ pick
 height_passes (pos n) = number_passes 1 n
 height_passes (negsuc n) = record { passed = (number_passes 0 _).passed }
 
-LF-passes : Passes false true (LF ∷ [])
+lf_passes : Passes false true (LF ∷ [])
 unfolding from_all_of ◌=?◌ ◌∧?◌ pick
-LF-passes = record { passed = λ r. refl }
+lf_passes = record { passed = λ r. refl }
 
 module _ {a : Bool} {ws : List ℕ} (p : Passes a false ws) where
   number_line_lem : (n : ℕ) → Passes a true (number_line ws n)
   unfolding number_line
-  number_line_lem n = then p (then (number_passes 1 n) LF-passes)
+  number_line_lem n = then p (then (number_passes 1 n) lf_passes)
 
   none_line_lem : Passes a true (none_line ws)
   unfolding none_line from_all_of spelt spelt_from ◌=?◌ ◌∧?◌ pick
-  none_line_lem = then p (then (said (spelt " none") (λ r. refl)) LF-passes)
+  none_line_lem = then p (then (said (spelt " none") (λ r. refl)) lf_passes)
 
 height_line_lem : {a : Bool} {ws : List ℕ} → Passes a false ws → (z : ℤ) (place : ℕ) →
     Passes a true (height_line ws (signed 1 z) (at_place_of place))

@@ -10,11 +10,11 @@ use Rattle.igc_log.specs.declared.Cut.{Cut}
 use Rattle.ahead.specs.Ahead.{cut_bytes, Ahead}
 use Rattle.held.specs.Tables.{tables_after}
 use Rattle.held.specs.declared.tables.Tables.{Tables}
-use Rattle.walk.specs.Readings.{Line-read, reader}
+use Rattle.walk.specs.Readings.{LineReading, reader}
 use Rattle.task_line.specs.Lines.{TaskLine, answer_kind, line_of, task_lines, seen_at, Sees}
 use Rattle.task_line.specs.declared.{Kind.Kind, Seen.Seen}
 
-abbrev pub seen : Line-read → TaskLine
+abbrev pub seen : LineReading → TaskLine
 seen x = line_of (answer_kind x.answer) x.line
 
 -- a task looks at no line's number, at no place and at no table

@@ -2,7 +2,7 @@
 use Rattle.text.specs.Prelude.{ℕ, ◌+◌, ◌≤◌, ◌<◌, ◌≡◌, List, Res, largest}
 use Rattle.text.proofs.Prelude.{arith, refl, sym, first, yes≤, holds}
 use Rattle.records.specs.declared.Record.{Record}
-use Rattle.walk.specs.Readings.{Line-read}
+use Rattle.walk.specs.Readings.{LineReading}
 use Rattle.walk.proofs.Turns.{one_at_most}
 use Rattle.trailer_text.specs.Trailer.{is_refusal_of, counted, tallied, count_step}
 use Rattle.trailer_text.specs.declared.Trailer.{Trailer}
@@ -14,6 +14,6 @@ unfolding tallied
 tallied_is t p s m h k = sym (first _ (holds (yes≤ (omega arith)) (yes≤ (omega arith))) refl)
 
 -- a line raises the count of refused lines by at most one
-pub one_refused : (t : Trailer) (x : Line-read) → (count_step t x).refused ≤ t.refused + 1
+pub one_refused : (t : Trailer) (x : LineReading) → (count_step t x).refused ≤ t.refused + 1
 unfolding count_step counted
 one_refused t x = omega (arith, one_at_most (is_refusal_of x.answer))

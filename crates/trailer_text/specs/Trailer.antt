@@ -4,7 +4,7 @@ use Rattle.text.specs.Prelude.{ℕ, code, Bool, List, [], Res, pick, ◌≤?◌,
 use Rattle.text.specs.Prelude.{largest}
 use Rattle.records.specs.Record.{answered}
 use Rattle.records.specs.declared.Record.{Record}
-use Rattle.walk.specs.Readings.{Line-read}
+use Rattle.walk.specs.Readings.{LineReading}
 use Rattle.trailer_text.specs.Answer.{plain}
 use Rattle.trailer_text.specs.declared.{Offset.Offset, Trailer.Trailer}
 use Rattle.trailer_text.specs.declared.Offset.TheVariants.{Missing, At}
@@ -35,7 +35,7 @@ unfoldable pub tallied : Trailer → ℕ → List ℕ → Res Record → Trailer
 tallied t p s m = pick ((t.lines + 1 ≤? largest) ∧? (t.refused + 1 ≤? largest)) (counted t p s m) t
 
 -- Over one reading more, as a step.
-unfoldable pub count_step : Trailer → Line-read → Trailer
+unfoldable pub count_step : Trailer → LineReading → Trailer
 count_step t x = counted t x.place x.line x.answer
 
 -- ---- its text

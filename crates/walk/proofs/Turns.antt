@@ -13,7 +13,7 @@ use Rattle.igc_log.proofs.Reached as log
 use Rattle.igc_log.proofs.Reached.{Reached}
 use Rattle.held.specs.declared.tables.Tables.{Tables}
 use Rattle.walk.specs.Turn.{got_at}
-use Rattle.walk.specs.Readings.{Line-read, reader}
+use Rattle.walk.specs.Readings.{LineReading, reader}
 use Rattle.walk.specs.declared.turn.Got.{Got}
 use Rattle.walk.proofs.Laws.{reading_is, viewed, cut_shown}
 
@@ -25,7 +25,7 @@ unfolding got_at
 got s at {r} e v a = rw (reading_is r a, v, e)
 
 -- what was read there, as line n at the place p with h held after it
-abbrev pub got_read : Got → List ℕ → ℕ → ℕ → Tables → Line-read
+abbrev pub got_read : Got → List ℕ → ℕ → ℕ → Tables → LineReading
 got_read g s n p h =
     record { number = n; place = p; line = part_bytes g.line s; answer = reading_res g.reading; held = h }
 
@@ -42,7 +42,7 @@ module _ (at : ℕ) (s : List ℕ) {g : Got} (e : g ≡ got_at at s) where
 
 -- ---- a turn, with all that is carried
 
-module _ {T : Type 0} {step : T → Line-read → T} {c₀ : Carried Tables T} {s : List ℕ} {at n p : ℕ} {h : Tables} {a : T}
+module _ {T : Type 0} {step : T → LineReading → T} {c₀ : Carried Tables T} {s : List ℕ} {at n p : ℕ} {h : Tables} {a : T}
     {g : Got}
     (i : at < length s) (r : Reached reader step c₀ s at (record { number = n; place = p; held = h; made = a }))
     (e : g ≡ got_at at s) where
@@ -65,7 +65,7 @@ module _ {T : Type 0} {step : T → Line-read → T} {c₀ : Carried Tables T} {
   cut_here = rw (e, viewed (read_line_of (part_bytes (cut_at at s).line s)), cut_shown s at r.inside) (refl, refl)
 
   -- the text of what was read up to the next place
-  pub text_turn : (f : Line-read → List ℕ) → texts f (read_on reader c₀ (take g.next s)) ≡
+  pub text_turn : (f : LineReading → List ℕ) → texts f (read_on reader c₀ (take g.next s)) ≡
       texts f (read_on reader c₀ (take at s)) ++ f (got_read g s (n + 1) p after)
   unfolding got_at
   text_turn f = let k = cut_here in rw (k.0, k.1) (rw e (log.text_next r i f))
@@ -75,7 +75,7 @@ module _ {T : Type 0} {step : T → Line-read → T} {c₀ : Carried Tables T} {
 
 -- ---- a product of a whole log that looks at no line's number and at no table
 
-module _ {T : Type 0} (step : T → Line-read → T) (a₀ : T) (s : List ℕ) where
+module _ {T : Type 0} (step : T → LineReading → T) (a₀ : T) (s : List ℕ) where
   -- a is what the lines before the place make of a₀
   pub record Made (at : ℕ) (a : T) : Type 0 where
     pub number : ℕ
@@ -83,7 +83,7 @@ module _ {T : Type 0} (step : T → Line-read → T) (a₀ : T) (s : List ℕ) w
     pub reached : Reached reader step (fresh reader a₀) s
         at (record { number = number; place = at; held = held; made = a })
 
-module _ {T : Type 0} {step : T → Line-read → T} where
+module _ {T : Type 0} {step : T → LineReading → T} where
   -- before the first line
   pub at_start : {a : T} {s : List ℕ} → Made step a s 0 a
   at_start = record { number = _; held = _; reached = log.at-start }
@@ -94,7 +94,7 @@ module _ {T : Type 0} {step : T → Line-read → T} where
     at_end i m = log.product i m.reached
 
     -- a count that a line raises by at most one
-    pub few : (m : T → ℕ) → ((a : T) (x : Line-read) → m (step a x) ≤ m a + 1) → Made step a₀ s at a → m a ≤ m a₀ + at
+    pub few : (m : T → ℕ) → ((a : T) (x : LineReading) → m (step a x) ≤ m a + 1) → Made step a₀ s at a → m a ≤ m a₀ + at
     few m h k = log.at_most k.reached m h
 
     module _ {g : Got} (i : at < length s) (m : Made step a₀ s at a) (e : g ≡ got_at at s) where
@@ -112,7 +112,7 @@ one_at_most false = omega arith
 
 -- ---- the same of the first line that has something
 
-module _ {T : Type 0} (f : Line-read → Option T) {s : List ℕ} {at : ℕ} where
+module _ {T : Type 0} (f : LineReading → Option T) {s : List ℕ} {at : ℕ} where
   pub not_found : length s ≤ at → Made (keep f) none s at none → none ≡ first_with f (readings reader s)
   not_found i m = log.not_found f m.reached i refl
 

@@ -47,11 +47,11 @@ abbrev pub letter_j : Letter reader Held
 letter_j = table_letter (code "J") (λ t. t.j) j_lines_set
 
 -- What a walk reads of one line.
-abbrev pub Line-read : Type 0
-Line-read = LineRead (Res Record) Tables
+abbrev pub LineReading : Type 0
+LineReading = LineRead (Res Record) Tables
 
 -- What a step has read, in front of what is read later; nothing where it is done.
-unfoldable pub read_by : List ℕ → Taken → Walk → List Line-read → List Line-read
+unfoldable pub read_by : List ℕ → Taken → Walk → List LineReading → List LineReading
 read_by s Done w later = []
 read_by s (Line part reading) w later =
     record {
@@ -63,7 +63,7 @@ read_by s (Line part reading) w later =
     } ∷ later
 
 -- The readings of at most k steps of a walk, up to the one that is done.
-unfoldable pub walked : ℕ → List ℕ → Walk → List Line-read
+unfoldable pub walked : ℕ → List ℕ → Walk → List LineReading
 walked zero s w = []
 walked (suc k) s w = read_by s (step_of s w).taken (step_of s w).walk (walked k s (step_of s w).walk)
 

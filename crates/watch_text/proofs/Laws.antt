@@ -12,7 +12,7 @@ use Rattle.igc_log.proofs.Reached as reached
 use Rattle.report.specs.Figures.{empty}
 use Rattle.report.specs.Report.{report_of, report_step}
 use Rattle.report.proofs.Reports.{agrees}
-use Rattle.watch_text.specs.Watch.{Running, Watch-read, watcher, risen, nothing_raised, watch_line_of, watch_text_of}
+use Rattle.watch_text.specs.Watch.{Running, WatchReading, watcher, risen, nothing_raised, watch_line_of, watch_text_of}
 use Rattle.watch_text.specs.Feed.{Nothing, no_step, view, at_first_of, is_ready_of, Watches}
 use Rattle.watch_text.specs.Laws.{Rows, none, next, InPieces, Rises}
 use Rattle.watch_text.specs.declared.{Watch.Watch, Watched.Watched}
@@ -62,7 +62,7 @@ in_pieces = record { whole = whole_is; at_first = first_ready; later = still_rea
 -- ---- what a line raises
 
 -- The reading behind k others, by what the step makes of these and of it.
-risen_from : (n p : ℕ) (t : Running) (ks : List (List ℕ)) (k : ℕ) (x : Watch-read) (later : List Watch-read) →
+risen_from : (n p : ℕ) (t : Running) (ks : List (List ℕ)) (k : ℕ) (x : WatchReading) (later : List WatchReading) →
     let xs = read_from watcher n p t ks in
     drop k xs ≡ x ∷ later →
     (x.number ≡ n + suc k)
@@ -70,12 +70,12 @@ risen_from : (n p : ℕ) (t : Running) (ks : List (List ℕ)) (k : ℕ) (x : Wat
 unfolding read_from over report_step risen
 risen_from n p t [] zero x later e = absurd (omega (arith, ap length e))
 risen_from n p t [] (suc k) x later e = absurd (omega (arith, ap length e))
-risen_from n p t (c ∷ ks) zero x later e = rw (ap (λ (xs : List Watch-read). get_or xs 0 x) (sym e)) (refl, refl)
+risen_from n p t (c ∷ ks) zero x later e = rw (ap (λ (xs : List WatchReading). get_or xs 0 x) (sym e)) (refl, refl)
 risen_from n p t (c ∷ ks) (suc k) x later e =
     let others = risen_from (n + 1) (p + length c) _ ks k x later e in
     (omega (arith, others.0), others.1)
 
-risen_at : (log : List ℕ) (k : ℕ) (x : Watch-read) (later : List Watch-read) → length log ≤ largest →
+risen_at : (log : List ℕ) (k : ℕ) (x : WatchReading) (later : List WatchReading) → length log ≤ largest →
     let xs = readings watcher log in
     drop k xs ≡ x ∷ later →
     (x.number ≡ k + 1) × (x.held ≡ risen (report_of (take k xs)) (report_of (take (k + 1) xs)))

@@ -4,7 +4,7 @@ use Rattle.text.specs.Prelude.{ℕ, Bool, true, false, List, length, ◌≤?◌,
 use Rattle.igc_log.specs.Fold as fold
 use Rattle.igc_log.specs.Taking.{Took}
 use Rattle.report.specs.Report.{figures_in}
-use Rattle.watch_text.specs.Watch.{Running, Watch-read, watcher, watch_line_of}
+use Rattle.watch_text.specs.Watch.{Running, WatchReading, watcher, watch_line_of}
 use Rattle.watch_text.specs.declared.{Watch.Watch, Watched.Watched}
 
 -- What the code holds of the lines before.
@@ -15,7 +15,7 @@ running_in w = record { report = figures_in w.report; pressure = w.pressure; gps
 abbrev pub Nothing : Type 0
 Nothing = Unit
 
-abbrev pub no_step : Nothing → Watch-read → Nothing
+abbrev pub no_step : Nothing → WatchReading → Nothing
 no_step a x = tt
 
 -- The same as every fold carries it.

@@ -5,7 +5,7 @@ use Rattle.text.specs.Prelude.{ℕ, true, List, [], length, take, drop, largest}
 use Rattle.igc_log.specs.Log.{readings}
 use Rattle.igc_log.specs.Pieces.{joined, Whole}
 use Rattle.report.specs.Report.{report_of}
-use Rattle.watch_text.specs.Watch.{Watch-read, watcher, risen, watch_text_of}
+use Rattle.watch_text.specs.Watch.{WatchReading, watcher, risen, watch_text_of}
 use Rattle.watch_text.specs.Feed.{view, at_first_of, is_ready_of, Watches}
 use Rattle.watch_text.specs.declared.{Watch.Watch, Watched.Watched}
 
@@ -27,7 +27,7 @@ pub record InPieces : Type 0 where
 -- Line k + 1 of a log holds the report of the first k + 1 readings, and raises what stands higher in it than in the
 -- report of the first k.
 pub record Rises : Type 0 where
-  pub at_line : (log : List ℕ) (k : ℕ) (x : Watch-read) (later : List Watch-read) → length log ≤ largest →
+  pub at_line : (log : List ℕ) (k : ℕ) (x : WatchReading) (later : List WatchReading) → length log ≤ largest →
       let xs = readings watcher log in
       drop k xs ≡ x ∷ later →
       (x.number ≡ k + 1) × (x.held ≡ risen (report_of (take k xs)) (report_of (take (k + 1) xs)))

@@ -40,8 +40,8 @@ watcher = record {
 }
 
 -- What it reads of one line.
-abbrev pub Watch-read : Type 0
-Watch-read = LineRead (Res Record) Running
+abbrev pub WatchReading : Type 0
+WatchReading = LineRead (Res Record) Running
 
 -- ---- what is written of it
 
@@ -50,7 +50,7 @@ unfoldable pub watch_line : ℕ → Running → List ℕ
 watch_line n t = pressure_line n t.pressure ++ gps_line n t.gps
 
 -- The text of a reading.
-unfoldable pub watch_line_of : Watch-read → List ℕ
+unfoldable pub watch_line_of : WatchReading → List ℕ
 watch_line_of x = watch_line x.number x.held
 
 -- The whole text of a log.
