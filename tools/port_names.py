@@ -299,6 +299,16 @@ def clauses(text, turn):
             i = m.end()
 
 
+def aliases(text, new):
+    """Names behind an alias of one of our modules, as `maker.letterOf`."""
+    known = set(re.findall(r"use Rattle\.[\w.]+ as (\w[\w']*)", text))
+
+    def one(m):
+        return m.group(1) + "." + new[m.group(2)] if m.group(1) in known and m.group(2) in new else m.group(0)
+
+    return re.sub(r"(?<![\w.'-])(\w[\w']*)\.(" + IDENT + ")", one, text) if known else text
+
+
 def rename_log():
     if (CRATES / "log").is_dir():
         subprocess.run(["git", "mv", "crates/log", "crates/igc_log"], check=True)
@@ -341,7 +351,7 @@ def main():
             if not own_path(module, crates):
                 for n in names:
                     mine.pop(n.split(" as ")[-1].strip(), None)
-        u = preludes(now_behind(turned(t, mine, fields)))
+        u = preludes(now_behind(aliases(turned(t, mine, fields), new)))
         if "specs" in p.parts:
             u = operators(u)
         if "proofs" in p.parts and p.name == "Proof.antt":

@@ -37,7 +37,7 @@ unfolding nothing
 at_start log b at short h k = record {
   short = short;
   held = _;
-  reached = fold.at-start;
+  reached = fold.at_start;
   wrote = rw (no_text reader line_of (fresh reader nothing)) (writing.wrote_nothing b at h k);
   lines = omega arith;
   refused = omega arith;

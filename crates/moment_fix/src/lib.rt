@@ -1,4 +1,6 @@
 // What a moment asks of a fix, its hours and whether it has the time; and the answer, with its number.
+#![tactic(auto)]
+
 ghost use Rattle.std.specs.Prelude.{◌≡◌};
 ghost use Rattle.moment_fix.specs.Fix.{hour_of_lem, same_time_of, with_time_of, moment_number};
 

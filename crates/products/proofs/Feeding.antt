@@ -77,7 +77,7 @@ module _ {p : Product} {names : List ℕ} {c : Carried} {s b₀ : List ℕ} wher
   at_start e short =
       let z : c.at.place + 0 ≡ c.at.place = omega arith in
       record {
-        reached = rw z reached.at-start;
+        reached = rw z reached.at_start;
         left = rw z left_all;
         wrote = rw (no_text reader (product_line_of p names) (view c)) (wrote_nothing b₀ 0 short (omega arith));
         fits = omega arith;

@@ -38,10 +38,10 @@ unfolding
     is_digit_of all_digits_of first_other_of value_from read_digits_of read_nat_of read_int_of digits places_in places_of padded signed zeros
     is_ascii_of cut
     columns sized ascii_in ascii field mnemonic_text read_three_of three_text time_of read_time_of time_text date_of read_date
-    date_text raw.compassLetter raw.sign_of raw.coordOf raw.lettered raw.readCoord raw.coordText
-    coord.latitude coord.longitude coord.latitudeIn coord.longitudeIn position.readBoth position.readPosition
-    position.positionText maker.letterOf maker.tripleSpelt maker.triple_of maker.known maker.first_of maker.isLetter
-    maker.letterMaker read_definition read_extension extension_text table_of read_defs read_body is_table_of read_table defs_of
+    date_text raw.compass_letter raw.sign_of raw.coord_of raw.lettered raw.read_coord raw.coord_text
+    coord.latitude coord.longitude coord.latitude_in coord.longitude_in position.read_both position.read_position
+    position.position_text maker.letter_of_lem maker.triple_spelt maker.triple_of maker.known maker.first_of maker.is_letter
+    maker.letter_maker read_definition read_extension extension_text table_of read_defs read_body is_table_of read_table defs_of
     defs_text table_body table_text table_read a_new a_of letter_form read_a triple_text a_body a_text valid_letter valid_of
     read_heights_of read_fix read_b tail_text b_body b_text turns read_flight_of read_task_of read_declaration flight_text task_text
     declaration_body declaration_text read_turnpoint turnpoint_body turnpoint_text

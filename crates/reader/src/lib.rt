@@ -1,4 +1,6 @@
 // The lent log with the walk's place and line number, for the desk: thin, over functions with plain parameters.
+#![tactic(auto)]
+
 ghost use Rattle.std.specs.Prelude.{◌≡◌};
 ghost use Rattle.part.specs.Part.{Shows};
 ghost use Rattle.held.specs.Tables.{tables_after};

@@ -1,4 +1,6 @@
 // Records of every kind printed, as src/records/mod.rs has it.
+#![tactic(auto)]
+
 ghost use Rattle.put.specs.Put.{Wrote};
 ghost use Rattle.print.specs.Print.{Prints};
 ghost use Rattle.record_print.specs.Printed.{record_text, record_piece};

@@ -30,7 +30,7 @@ use Rattle.piece_text.specs.Value.{asked_for, value_shown}
 
 -- The letter code and the triple code as the maker gives them, unique id, id extension.
 unfoldable pub a_shown : ARecord → List ℕ
-a_shown r = letter_shown (maker.letterOf r.manufacturer)
+a_shown r = letter_shown (maker.letter_of_lem r.manufacturer)
     ++ (triple_shown (maker.triple_of r.manufacturer)
     ++ (part_shown r.unique_id ++ maybe_shown r.id_extension))
 

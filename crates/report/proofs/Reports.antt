@@ -179,7 +179,10 @@ module _ {T : Type 0} where
         Every (λ x. answered x.answer ≤ 12) (read_from R n p t cs)
     unfolding read_from
     read_counted n p t [] = tt
-    read_counted n p t (c ∷ cs) = (rw (reads (line_text c)) (answer_le (line_text c)), read_counted _ _ _ cs)
+    read_counted n p t (c ∷ cs) = (
+      rw (reads (line_text c)) (answer_le (line_text c)),
+      read_counted (n + 1) (p + length c) (R.after p t (line_text c)) cs,
+    )
 
     lines_are_answered : (log : List ℕ) →
         let report = report_of (readings R log) in summed report.answers ≡ report.lines

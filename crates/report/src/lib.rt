@@ -1,4 +1,6 @@
 // The report of a log: its lines by answer number, its accepted B lines, heights of those marked A, times of them all.
+#![tactic(auto)]
+
 pub mod gps;
 pub mod pressure;
 pub mod times;

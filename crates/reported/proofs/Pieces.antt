@@ -63,7 +63,7 @@ module _ (f₀ : Figures PressurePeak GpsPeak) (p : ℕ) (s : List ℕ) where
 module _ {f₀ : Figures PressurePeak GpsPeak} {p : ℕ} {s : List ℕ} where
   -- before the first line
   pub at_start : Taken f₀ p s 0 f₀
-  at_start = record { number = 0; held = no_tables; reached = rw (add-zero p) log.at-start }
+  at_start = record { number = 0; held = no_tables; reached = rw (add-zero p) log.at_start }
 
   module _ {at : ℕ} {f : Figures PressurePeak GpsPeak} (t : Taken f₀ p s at f) where
     -- after the last line

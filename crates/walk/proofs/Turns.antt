@@ -86,7 +86,7 @@ module _ {T : Type 0} (step : T → LineReading → T) (a₀ : T) (s : List ℕ)
 module _ {T : Type 0} {step : T → LineReading → T} where
   -- before the first line
   pub at_start : {a : T} {s : List ℕ} → Made step a s 0 a
-  at_start = record { number = _; held = _; reached = log.at-start }
+  at_start = record { number = _; held = _; reached = log.at_start }
 
   module _ {a₀ a : T} {s : List ℕ} {at : ℕ} where
     -- after the last line

@@ -1,5 +1,7 @@
 // The walk over a log, by value: place, line number, the tables of definitions in force, and the report of the lines
 // read so far.
+#![tactic(auto)]
+
 pub mod turn;
 
 ghost use Rattle.std.specs.Prelude.{◌≡◌};

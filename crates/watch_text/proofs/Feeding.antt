@@ -76,7 +76,7 @@ module _ {c₀ : Carried Running Nothing} {s b₀ : List ℕ} where
   -- Before the first line.
   pub at_start : is_ready_of c₀ (length s) ≡ true → length b₀ < largest → Feeding c₀ s b₀ b₀ c₀ 0 0
   at_start e short = record {
-    reached = reached.at-start;
+    reached = reached.at_start;
     left = left_all;
     wrote = rw (no_text watcher watch_line_of c₀) (wrote_nothing b₀ 0 short (omega arith));
     fits = omega arith;

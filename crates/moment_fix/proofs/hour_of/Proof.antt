@@ -9,6 +9,6 @@ hour_of_spec =
     tie.close
     (tie.spec
     (search rules) (search rules) (search rules) (search rules) (search rules)
-    (λ c. rw c.enum_told.given.1)
-    (λ c. rw c.before.before.before.before.fix.given.1)
-    (λ c. rw c.before.before.before.before.fix.given.1))
+    (λ c. rw c.in-Missing.is)
+    (λ c. rw c.before.before.in-Fix.is)
+    (λ c. rw c.before.before.in-Fix.is))

@@ -10,4 +10,4 @@ count_of_spec =
     (search rules)
     (search rules)
     (search rules)
-    (λ c. sym (get_or-eq_default c.before.args.t1 0 (search rules))))
+    (λ c. sym (get_or-eq_default c.before.args.answers 0 (search rules))))

@@ -9,6 +9,6 @@ number_spec =
     tie.close
     (tie.spec
     (search rules) (search rules) (search rules) (search rules)
-    (λ c. rw c.enum_told.given.1)
-    (λ c. rw c.enum-told2.given.1)
-    (λ c. rw c.before.before.self.given.1 c.number.ensures))
+    (λ c. rw c.in-Found.is)
+    (λ c. rw c.in-NoSuchFix.is)
+    (λ c. rw c.before.in-Refused.is c.number.ensures))

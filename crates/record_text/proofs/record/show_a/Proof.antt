@@ -12,9 +12,9 @@ returns c =
     let id = extension.before.before.before.before in
     let triple = id.before.before.before.before in
     let letter = triple.before.before.before.before.before in
-    rw (letter.before.to-single-char.ensures, triple.before.to-triple-char.ensures)
-    at (then letter.show-letter.ensures
-    (then triple.show-triple.ensures (then id.show-part.ensures extension.show-maybe.ensures)))
+    rw (letter.before.to_single_char.ensures, triple.before.to_triple_char.ensures)
+    at (then letter.show_letter-at_triple.ensures
+    (then triple.show_triple-at_id.ensures (then id.show_part-at_extension.ensures extension.show_maybe.ensures)))
 
 pub show_a_spec : {M : Type 1} → statement M
 show_a_spec = tie.close (tie.spec (search rules) (search rules) (search rules) (search rules) (search rules)

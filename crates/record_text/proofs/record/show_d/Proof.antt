@@ -10,7 +10,7 @@ unfolding d_shown
 returns c =
     let station = c.before.before in
     let qualifier = station.before.before.before.before in
-    rw qualifier.before.letter.ensures at (then qualifier.show-byte.ensures station.show-part.ensures)
+    rw qualifier.before.letter.ensures at (then qualifier.show_byte-at_station.ensures station.show_part.ensures)
 
 pub show_d_spec : {M : Type 1} → statement M
 show_d_spec = tie.close (tie.spec (search rules) (search rules) (search rules) (search rules) returns)

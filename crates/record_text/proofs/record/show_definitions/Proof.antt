@@ -12,35 +12,35 @@ use Rattle.record_text.proofs.record.show_definitions.Statement.{statement}
 use Rattle.record_text.proofs.record.show_definitions.Tie as tie
 
 -- the first i definitions are written
-abbrev invariant-loop : tie.invariant-loop
+abbrev invariant-loop : tie.invariant-loop-i
 invariant-loop buf₀ at table n next₀ i₀ buf next i = (i ≤ n) × Wrote buf₀ at (texts definition_shown (take i (defs_of table)))
     buf next
 
-abbrev decreases-loop : tie.decreases-loop
+abbrev decreases-loop : tie.decreases-loop-i
 decreases-loop buf₀ at table n next₀ i₀ buf next i = n - i
 
-starts : tie.Need-loop-init invariant-loop decreases-loop
+starts : tie.Need-loop-i-init invariant-loop decreases-loop
 unfolding texts
 starts c = (omega arith, wrote_nothing _ _ (omega arith) (omega arith))
 
-slot : (c : tie.In-loop invariant-loop decreases-loop) → c.before.loop.i < 99
+slot : (c : tie.In-loop-i invariant-loop decreases-loop) → c.before.loop-i.i < 99
 slot c =
-    let t = c.before.before.before.before.args.t3 in
+    let t = c.before.before.before.before.args.table in
     let l : length t.defs ≡ 99 = search (rules, long_under) in
     omega (arith, count_defs t)
 
-again : tie.Need-loop-preserved invariant-loop decreases-loop
+again : tie.Need-loop-i-preserved invariant-loop decreases-loop
 again c =
     let o = c.before.before.before.before.before.before in
-    let t = o.before.before.before.args.t3 in (
+    let t = o.before.before.before.args.table in (
       omega arith,
-      in_turn _ (defs_of t) o.loop.i (definition_at t o.loop.i (omega arith)) o.loop.invariant.1
-          c.before.before.show-definition.ensures,
+      in_turn _ (defs_of t) o.loop-i.i (definition_at t o.loop-i.i (omega arith)) o.loop-i.invariant.1
+          c.before.before.show_definition-next.ensures,
     )
 
 ends : tie.Need-returns invariant-loop decreases-loop
-ends c = rw (take_all c.before.loop.i (defs_of c.before.before.before.before.args.t3) (omega arith))
-    at c.before.loop.invariant.1
+ends c = rw (take_all c.before.loop-i.i (defs_of c.before.before.before.before.args.table) (omega arith))
+    at c.before.loop-i.invariant.1
 
 pub show_definitions_spec : {M : Type 1} → statement M
 show_definitions_spec =
@@ -54,5 +54,5 @@ show_definitions_spec =
     slot
     (search rules) (search rules) (search rules)
     again
-    (λ c. wrote_length c.before.loop.invariant.1)
+    (λ c. wrote_length c.before.loop-i.invariant.1)
     ends)

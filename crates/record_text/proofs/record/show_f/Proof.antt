@@ -12,7 +12,7 @@ returns c =
     let count = list.before.before.before.before in
     let time = count.before.before.before.before.before in
     rw count.before.count.ensures.all
-    at (then time.show-time.ensures (then count.show-number.ensures list.show-part.ensures))
+    at (then time.show_time-at_count.ensures (then count.show_number-at_list.ensures list.show_part.ensures))
 
 pub show_f_spec : {M : Type 1} → statement M
 show_f_spec = tie.close (tie.spec (search rules) (search rules) (search rules) (search rules) (search rules)

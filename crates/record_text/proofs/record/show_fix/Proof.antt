@@ -15,9 +15,9 @@ returns c =
     let first = pressure.before.before.before.before in
     let letter = first.before.before.before.before in
     let heights =
-    then (then first.put_byte.ensures pressure.put.ensures)
-    (then (then second.put-byte2.ensures gps.put2.ensures) rest.show-part.ensures) in
-    rw letter.before.letter.ensures at (then letter.show-byte.ensures heights)
+    then (then first.put_byte-at_pressure.ensures pressure.put-at_second.ensures)
+    (then (then second.put_byte-at_gps.ensures gps.put-at_rest.ensures) rest.show_part.ensures) in
+    rw letter.before.letter.ensures at (then letter.show_byte-at_space.ensures heights)
 
 pub show_fix_spec : {M : Type 1} → statement M
 show_fix_spec =

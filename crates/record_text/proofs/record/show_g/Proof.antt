@@ -5,4 +5,4 @@ use Rattle.record_text.proofs.record.show_g.Tie as tie
 
 pub show_g_spec : {M : Type 1} → statement M
 unfolding g_shown
-show_g_spec = tie.close (tie.spec (search rules) (search rules) (λ c. c.before.before.show-part.ensures))
+show_g_spec = tie.close (tie.spec (search rules) (search rules) (λ c. c.before.before.show_part.ensures))

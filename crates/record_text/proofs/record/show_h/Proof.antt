@@ -12,9 +12,9 @@ returns c =
     let name = end.before.before.before.before in
     let short = name.before.before.before.before in
     let source = short.before.before.before.before in
-    rw source.before.to-byte.ensures
-    at (then source.show-byte.ensures
-    (then short.show-part.ensures (then name.show-maybe.ensures end.show-part2.ensures)))
+    rw source.before.to_byte.ensures
+    at (then source.show_byte-at_short.ensures
+    (then short.show_part-at_name.ensures (then name.show_maybe-at_data.ensures end.show_part.ensures)))
 
 pub show_h_spec : {M : Type 1} → statement M
 show_h_spec = tie.close (tie.spec (search rules) (search rules) (search rules) (search rules) (search rules)

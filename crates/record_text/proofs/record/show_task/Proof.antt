@@ -11,7 +11,7 @@ use Rattle.record_text.proofs.record.show_task.Tie as tie
 abbrev task : tie.Start → CRecordDeclaration
 task c = c.args.task
 
-count_fits : (c : tie.After-struct-told) → SFits w8 (task (search rules)).turnpoint_count
+count_fits : (c : tie.After-struct_told-1) → SFits w8 (task (search rules)).turnpoint_count
 count_fits c = search rules
 
 returns : tie.Need-returns
@@ -22,8 +22,8 @@ returns c =
     let space = count.before.before.before.before.before in
     let id = space.before.before.before.before in
     rw (to_z-of_z (count_fits count.before))
-    at (then id.show-number.ensures
-    (then space.put_byte.ensures (then count.put-i8.ensures name.show-maybe.ensures)))
+    at (then id.show_number-at_space.ensures
+    (then space.put_byte-at_count.ensures (then count.put_i8-at_name.ensures name.show_maybe.ensures)))
 
 pub show_task_spec : {M : Type 1} → statement M
 show_task_spec =

@@ -20,23 +20,23 @@ answer b = reading_res b.args.reading
 wide : (c : tie.Start) → length (figures c).answers ≡ numbers
 wide c = search rules
 
-number : (c : tie.After-number) → c.number.result ≡ answered (answer (search rules))
-number c = number_is _ c.number.ensures
+number : (c : tie.After-number-number) → c.number-number.result ≡ answered (answer (search rules))
+number c = number_is _ c.number-number.ensures
 
-count : (c : tie.After-count-of) →
-    c.count_of.result ≡ get_or (figures (search rules)).answers (answered (answer (search rules))) 0
-count c = rw (number (search rules)) at c.count_of.ensures
+count : (c : tie.After-count_of-count) →
+    c.count_of-count.result ≡ get_or (figures (search rules)).answers (answered (answer (search rules))) 0
+count c = rw (number (search rules)) at c.count_of-count.ensures
 
-counts : (c : tie.After-with-count) → Counted (figures (search rules)) (answer (search rules)) c.with-count.result
+counts : (c : tie.After-with_count-answers) → Counted (figures (search rules)) (answer (search rules)) c.with_count-answers.result
 counts c =
-    counted _ _ (number (search rules)) (count (search rules)) c.with-count.ensures (wide (search rules))
+    counted _ _ (number (search rules)) (count (search rules)) c.with_count-answers.ensures (wide (search rules))
     (search rules) (search rules)
 
-other : (c : tie.After-enum-told) → MaybeFix.Missing ≡ answer_fix (answer (search rules))
-other c = sym c.enum_told.given.1 ∙ c.before.before.fix.ensures
+other : (c : tie.In-Missing) → MaybeFix.Missing ≡ answer_fix (answer (search rules))
+other c = sym c.in-Missing.is ∙ c.before.fix.ensures
 
-fix : (c : tie.After-fix2) → MaybeFix.Fix c.fix2.given.0.0 ≡ answer_fix (answer (search rules))
-fix c = sym c.fix2.given.1 ∙ c.before.before.fix.ensures
+fix : (c : tie.In-Fix) → MaybeFix.Fix c.in-Fix.fix ≡ answer_fix (answer (search rules))
+fix c = sym c.in-Fix.is ∙ c.before.fix.ensures
 
 pub after_spec : {M : Type 1} → statement M
 after_spec =
@@ -49,4 +49,4 @@ after_spec =
     (λ c. fixes_full _ _ _ (counts (search rules)) (fix (search rules)) (search rules))
     (search rules) (search rules)
     (λ c. taken_other _ _ _ (counts (search rules)) (other (search rules)) (search rules))
-    (λ c. c.with-fix.ensures ∙ taken_fix _ _ _ (counts (search rules)) (fix (search rules)) (search rules)))
+    (λ c. c.with_fix.ensures ∙ taken_fix _ _ _ (counts (search rules)) (fix (search rules)) (search rules)))

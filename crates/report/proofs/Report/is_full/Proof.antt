@@ -9,7 +9,7 @@ unfolding is_full_of ◌∨?◌ pick
 is_full_spec =
     tie.close
     (tie.spec
-    (λ c. rw (yes≤ c.if1.true))
-    (λ c. rw (no≤ c.before.before.if1.false, yes≤ c.if2.true))
+    (λ c. rw (yes≤ c.if-self-ge18446744073709551615.true))
+    (λ c. rw (no≤ c.before.before.if-self-ge18446744073709551615.false, yes≤ c.if-self-ge18446744073709551615-2.true))
     (search rules)
-    (λ c. rw (no≤ c.before.before.before.if1.false, no≤ c.before.if2.false) c.one-full.ensures))
+    (λ c. rw (no≤ c.before.before.before.if-self-ge18446744073709551615.false, no≤ c.before.if-self-ge18446744073709551615-2.false) c.one_full.ensures))

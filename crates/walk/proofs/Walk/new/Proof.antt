@@ -7,8 +7,8 @@ use Rattle.walk.proofs.Walk.new.Tie as tie
 made : tie.Need-returns
 unfolding fresh
 made c =
-    let report = c.before.new2 in
-    rw (c.before.before.new.ensures, report_is report.result report.ensures, c.new3.ensures)
+    let report = c.before.new-report in
+    rw (c.before.before.new-held.ensures, report_is report.result report.ensures, c.new-at.ensures)
 
 pub new_spec : {M : Type 1} → statement M
 new_spec = tie.close (tie.spec (search rules) (search rules) (search rules) made)

@@ -6,7 +6,7 @@ use Rattle.walk.proofs.turn.read_at.Tie as tie
 returns : tie.Need-returns
 returns c =
     let view = c.before in
-    got _ _ view.before.before.cut_at.ensures view.view.ensures.bytes c.parse-line.ensures
+    got _ _ view.before.before.cut_at-cut.ensures view.view.ensures.bytes c.parse_line-reading.ensures
 
 pub read_at_spec : {M : Type 1} → statement M
 read_at_spec = tie.close (tie.spec (search rules) (search rules) (search rules) returns)

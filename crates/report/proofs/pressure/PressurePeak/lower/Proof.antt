@@ -9,5 +9,5 @@ lower_spec =
     tie.close
     (tie.spec
     (search rules)
-    (λ c. first _ (sym c.before.below.ensures ∙ c.if1.true) refl)
-    (λ c. second _ (sym c.before.below.ensures ∙ c.if1.false) refl))
+    (λ c. first _ (sym c.before.below.ensures ∙ c.if-below.true) refl)
+    (λ c. second _ (sym c.before.below.ensures ∙ c.if-below.false) refl))

@@ -12,5 +12,5 @@ after_spec =
     (search rules)
     (search rules)
     (search rules)
-    (λ c. rw c.enum_told.given.1)
-    (λ c. rw (c.before.before.before.self.given.1, c.before.higher.ensures, c.lower.ensures)))
+    (λ c. rw c.in-Missing.is)
+    (λ c. rw (c.before.before.in-Between.is, c.before.higher.ensures, c.lower.ensures)))

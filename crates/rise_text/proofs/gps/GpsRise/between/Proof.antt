@@ -4,34 +4,34 @@ use Rattle.rise_text.specs.Rise.{raised, gps_rise}
 use Rattle.rise_text.proofs.gps.GpsRise.between.Statement.{statement}
 use Rattle.rise_text.proofs.gps.GpsRise.between.Tie as tie
 
-above : tie.Need-returns
+above : tie.Need-returns-then-is_below
 unfolding raised gps_rise pick
 above c =
-    let below : tie.After-is-below = search rules in
-    let before : tie.After-before2 = search rules in
-    let now : tie.After-now = search rules in
-    rw (before.before2.given.1, now.now.given.1, sym below.is_below.ensures ∙ c.if1.true)
+    let below : tie.After-is_below = search rules in
+    let before : tie.In-Between-before = search rules in
+    let now : tie.In-Between = search rules in
+    rw (before.in-Between-before.is, now.in-Between.is, sym below.is_below.ensures ∙ c.if-is_below.true)
 
 -- no height was seen
-none_now : tie.Need-returns-2
+none_now : tie.Need-returns-in-Missing
 unfolding raised gps_rise
-none_now c = let e : tie.After-enum-told = search rules in rw e.enum_told.given.1
+none_now c = let e : tie.In-Missing = search rules in rw e.in-Missing.is
 
 -- the first was
-none_before : tie.Need-returns-3
+none_before : tie.Need-returns-in-Missing-before
 unfolding raised gps_rise
 none_before c =
-    let e : tie.After-enum-told2 = search rules in
-    let now : tie.After-now = search rules in
-    rw (e.enum-told2.given.1, now.now.given.1)
+    let e : tie.In-Missing-before = search rules in
+    let now : tie.In-Between = search rules in
+    rw (e.in-Missing-before.is, now.in-Between.is)
 
-not_above : tie.Need-returns-4
+not_above : tie.Need-returns-else-is_below
 unfolding raised gps_rise pick
 not_above c =
-    let below : tie.After-is-below = search rules in
-    let before : tie.After-before2 = search rules in
-    let now : tie.After-now = search rules in
-    rw (before.before2.given.1, now.now.given.1, sym below.is_below.ensures ∙ c.if1.false)
+    let below : tie.After-is_below = search rules in
+    let before : tie.In-Between-before = search rules in
+    let now : tie.In-Between = search rules in
+    rw (before.in-Between-before.is, now.in-Between.is, sym below.is_below.ensures ∙ c.if-is_below.false)
 
 pub between_spec : {M : Type 1} → statement M
 between_spec =

@@ -5,19 +5,19 @@ use Rattle.rise_text.specs.Rise.{rise_text_of, pressure_line}
 use Rattle.rise_text.proofs.pressure.PressureRise.put.Statement.{statement}
 use Rattle.rise_text.proofs.pressure.PressureRise.put.Tie as tie
 
-same : tie.Need-returns
+same : tie.Need-returns-in-Same
 unfolding pressure_line
-same c = rw c.enum_told.given.1 (wrote_nothing _ _ (omega arith) (omega arith))
+same c = rw c.in-Same.is (wrote_nothing _ _ (omega arith) (omega arith))
 
-risen : tie.Need-returns-2
+risen : tie.Need-returns-in-To
 unfolding pressure_line rise_text_of spelt spelt_from
-risen c = let e : tie.After-self = search rules in rw e.self.given.1 (search (then))
+risen c = let e : tie.In-To = search rules in rw e.in-To.is (search (then))
 
 pub put_spec : {M : Type 1} → statement M
 put_spec =
     tie.close
     (tie.spec
-    (search rules) (search rules) (search rules) (search rules) (search rules) (search rules) (search rules)
+    (search rules) (search rules) (search rules) (search rules) (search rules) (search rules)
     same
     (search rules)
     risen)

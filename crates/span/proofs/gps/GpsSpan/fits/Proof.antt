@@ -12,8 +12,8 @@ fits_spec =
     (search rules)
     (search rules)
     (search rules)
-    (λ c. rw c.before.before.before.self.given.1 (sym (fails _ (no≤ (omega arith)))))
+    (λ c. rw c.before.before.in-Between.is (sym (fails _ (no≤ (omega arith)))))
     (search rules)
-    (λ c. rw c.enum_told.given.1)
-    (λ c. rw c.before.before.before.before.self.given.1
+    (λ c. rw c.in-Missing.is)
+    (λ c. rw c.before.before.before.in-Between.is
     (sym (holds (yes≤ (omega arith)) (sym (last_fits _ _ (omega arith)))))))

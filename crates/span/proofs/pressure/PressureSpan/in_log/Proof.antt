@@ -12,5 +12,5 @@ in_log_spec =
     (search rules)
     (search rules)
     (search rules)
-    (λ c. rw c.enum_told.given.1)
-    (λ c. rw (c.before.before.before.range.given.1, c.before.in-log.ensures, c.in-log2.ensures)))
+    (λ c. rw c.in-Missing.is)
+    (λ c. rw (c.before.before.in-Between.is, c.before.in_log.ensures, c.in_log-in-Between.ensures)))

@@ -14,12 +14,12 @@ join_spec =
     (search rules)
     (search rules)
     (search rules)
-    (λ c. rw c.enum_told.given.1)
-    (λ c. rw (c.before.before.before.self.given.1, c.enum-told2.given.1))
-    (λ c. let later = c.before.before.before.before in
+    (λ c. rw c.in-Missing.is)
+    (λ c. rw (c.before.in-Between.is, c.in-Missing-later.is))
+    (λ c. let later = c.before.before in
     rw (
-      later.before.before.self.given.1,
-      c.before.before.before.later.given.1,
+      later.before.in-Between.is,
+      c.before.before.in-Between-later.is,
       c.before.higher.ensures,
       c.lower.ensures,
     )))

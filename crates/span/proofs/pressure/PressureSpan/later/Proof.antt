@@ -8,11 +8,11 @@ use Rattle.span.proofs.pressure.PressureSpan.later.Tie as tie
 abbrev fits : tie.Start → Bool
 fits b = all_fit (numbers_of (λ s. s.log) (mapped (later_pressure b.args.before) (pressure_over b.args.self)))
 
-over : (c : tie.Then1) → fits (search rules) ≡ false
-over c = so_false c.before.fits2.ensures c.if1.true
+over : (c : tie.Then-not-fits) → fits (search rules) ≡ false
+over c = so_false c.before.fits.ensures c.if-not-fits.true
 
-fit : (c : tie.Else1) → fits (search rules) ≡ true
-fit c = so_true c.before.fits2.ensures c.if1.false
+fit : (c : tie.Else-not-fits) → fits (search rules) ≡ true
+fit c = so_true c.before.fits.ensures c.if-not-fits.false
 
 pub later_spec : {M : Type 1} → statement M
 unfolding later_pressure mapped shifted
@@ -23,8 +23,8 @@ later_spec =
     (λ c. second _ (over (search rules)) refl)
     (search rules)
     (search rules)
-    (λ c κs. (fit_pair _ _ _ (rw c.before.self.given.1 at (fit c.before.before.before))).0)
-    (λ c κs. (fit_pair _ _ _ (rw c.before.before.self.given.1 at (fit c.before.before.before.before))).1)
-    (λ c. first _ (fit (search rules)) (rw c.enum_told.given.1))
+    (λ c κs. (fit_pair _ _ _ (rw c.in-Between.is at (fit c.before))).0)
+    (λ c κs. (fit_pair _ _ _ (rw c.before.in-Between.is at (fit c.before.before))).1)
+    (λ c. first _ (fit (search rules)) (rw c.in-Missing.is))
     (λ c. first _ (fit (search rules))
-    (rw (c.before.before.before.self.given.1, c.before.later.ensures, c.later2.ensures))))
+    (rw (c.before.before.in-Between.is, c.before.later.ensures, c.later-in-Between.ensures))))
