@@ -23,13 +23,13 @@ fn say(rt: HostRuntime, name: &[u8], printed: TaskPrinted, text: &[u8]) {
     }
 }
 
-fn sheet<'a>(name: &[u8], log: &'a [u8], labels: &'a [u8]) {
+fn sheet<'a>(rt: HostRuntime, name: &[u8], log: &'a [u8], labels: &'a [u8]) {
     let mut text = [b'.'; 128];
     let printed = print_task(log, labels, &mut text);
     say(rt, name, printed, &text);
 }
 
-fn small<'a>(name: &[u8], log: &'a [u8], labels: &'a [u8]) {
+fn small<'a>(rt: HostRuntime, name: &[u8], log: &'a [u8], labels: &'a [u8]) {
     let mut text = [b'.'; 79];
     let printed = print_task(log, labels, &mut text);
     say(rt, name, printed, &text);
