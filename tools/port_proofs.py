@@ -224,7 +224,7 @@ def today(parts):
     for i in range(1, len(out)):
         if out[i] == "inv" and out[i - 1].startswith("loop"):
             out[i] = "invariant"
-        if out[i - 1].startswith("if"):
+        if out[i - 1].startswith("if") or out[i - 1].endswith("-test"):
             out[i] = {"taken": "true", "left": "false"}.get(out[i], out[i])
     return out
 

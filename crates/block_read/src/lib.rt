@@ -1,4 +1,6 @@
 // The block of all logs, read back from the text that `sheet_text` prints of it.
+#![tactic(auto)]
+
 mod answers;
 mod gps;
 mod number;

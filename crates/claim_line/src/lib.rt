@@ -1,4 +1,6 @@
 // What a record claim asks of one line of a log.
+#![tactic(auto)]
+
 ghost use Rattle.std.specs.Prelude.{◌≡◌};
 ghost use Rattle.records.specs.Record.{reading_res, answer_fix};
 ghost use Rattle.claim_line.specs.Asked.{is_accepted_of, is_book_of, second_in_of, asked_of, asked_at_of};

@@ -1,4 +1,6 @@
 // The text of the listing: a line for each line of the log, and a trailer with counts over them.
+#![tactic(auto)]
+
 pub mod listing;
 pub mod paper;
 

@@ -1,5 +1,7 @@
 // Going to a moment of a flight: beside a log an index of its hours, and the fix at a time, found by it or by a walk
 // from the log's start.
+#![tactic(auto)]
+
 ghost use Rattle.std.specs.Prelude.{◌≡◌};
 ghost use Rattle.time.specs.Time.{time_of, time_res};
 ghost use Rattle.moment.specs.Moment.{index_of, found, found_from, by_index, by_walk};

@@ -1,4 +1,6 @@
 // The finer positions of a log as text, a line for each accepted fix.
+#![tactic(auto)]
+
 ghost use Rattle.put.specs.Put.{Wrote};
 ghost use Rattle.records.specs.Record.{reading_res};
 ghost use Rattle.positions_text.specs.Positions.{coord_shown, latitude_shown, longitude_shown, place_shown};

@@ -1,5 +1,7 @@
 // What the desk writes of a log, in pieces: the lines of each piece go into lent bytes, and what is carried goes on to
 // the next.
+#![tactic(auto)]
+
 ghost use Rattle.std.specs.Prelude.{◌≡◌, true, length};
 ghost use Rattle.put.specs.Put.{Wrote};
 ghost use Rattle.records.specs.Record.{reading_res};

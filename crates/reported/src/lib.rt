@@ -1,5 +1,7 @@
 // A log, or a piece of one, taken into a report. The loop carries the figures as plain numbers and looks at a line by
 // a glance, so that it copies no record and no range.
+#![tactic(auto)]
+
 pub mod end;
 mod ends;
 mod flat;

@@ -1,4 +1,6 @@
 // The total of a sheet, read back from its last block.
+#![tactic(auto)]
+
 ghost use Rattle.std.specs.Prelude.{◌≤◌, ◌≡◌, true, length, drop};
 ghost use Rattle.sheet_read.specs.Sheet.{from_all_of, ends, read_sheet_of, beside, sheet_in};
 

@@ -1,4 +1,6 @@
 // The season's sheet as text: a block of lines for each log, and one for all of them.
+#![tactic(auto)]
+
 pub mod gps;
 pub mod line;
 pub mod pressure;

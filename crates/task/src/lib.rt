@@ -1,4 +1,6 @@
 // The sheet of a log's first declared task: takeoff, start, turns, finish and landing, a line each.
+#![tactic(auto)]
+
 mod lines;
 mod points;
 

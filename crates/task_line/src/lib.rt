@@ -1,4 +1,6 @@
 // What the lines of a log are to a task: declarations, turnpoints and others.
+#![tactic(auto)]
+
 ghost use Rattle.std.specs.Prelude.{◌≡◌};
 ghost use Rattle.records.specs.Record.{reading_res};
 ghost use Rattle.task_line.specs.Lines.{record_kind, answer_kind, Sees};

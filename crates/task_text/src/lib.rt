@@ -1,4 +1,6 @@
 // The points of a task as text, a line each.
+#![tactic(auto)]
+
 ghost use Rattle.std.specs.Prelude.{◌≡◌, drop};
 ghost use Rattle.put.specs.Put.{Wrote};
 ghost use Rattle.task_line.specs.Lines.{line_of, task_lines};

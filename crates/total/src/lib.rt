@@ -1,4 +1,6 @@
 // The total of some logs: the figures of a report over all of them in order.
+#![tactic(auto)]
+
 ghost use Rattle.std.specs.Prelude.{◌≡◌};
 ghost use Rattle.report.specs.Report.{figures_in};
 ghost use Rattle.total.specs.Total.{add_res, added_in, beside, join_res, joined_in, no_logs, one_log, refused};

@@ -1,4 +1,6 @@
 // The trailer: counts over the readings of a walk, and where the I line in force begins.
+#![tactic(auto)]
+
 ghost use Rattle.std.specs.Prelude.{◌≡◌};
 ghost use Rattle.put.specs.Put.{Wrote};
 ghost use Rattle.records.specs.Record.{reading_res};

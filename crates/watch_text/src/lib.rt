@@ -1,5 +1,7 @@
 // A log watched, in pieces: a line wherever the running summit of a datum rises goes into lent bytes, and what is
 // carried goes on to the next piece.
+#![tactic(auto)]
+
 ghost use Rattle.std.specs.Prelude.{◌≡◌, true, ◌+◌, ◌≤◌, ◌<◌, length};
 ghost use Rattle.text.specs.Word.{largest};
 ghost use Rattle.put.specs.Put.{Wrote};

@@ -3,17 +3,17 @@ use Rattle.block_read.proofs.Blocks.{block_good, block_wrong}
 use Rattle.block_read.proofs.read_block.Statement.{statement}
 use Rattle.block_read.proofs.read_block.Tie as tie
 
-good : tie.Need-returns
+good : tie.Need-returns-then-place
 good c =
-    let a : tie.After-read-all = search rules in
-    let t : tie.Then1 = search rules in
-    block_good _ a.read_all.ensures t.if1.taken
+    let a : tie.After-read_all-all = search rules in
+    let t : tie.Then-place = search rules in
+    block_good _ a.read_all-all.ensures t.if-place.true
 
-wrong : tie.Need-returns-2
+wrong : tie.Need-returns
 wrong c =
-    let a : tie.After-read-all = search rules in
-    let t : tie.Else1 = search rules in
-    rw c.new.ensures (block_wrong _ a.read_all.ensures t.if1.left)
+    let a : tie.After-read_all-all = search rules in
+    let t : tie.Else-place = search rules in
+    rw c.new.ensures (block_wrong _ a.read_all-all.ensures t.if-place.false)
 
 pub read_block_spec : {M : Type 1} → statement M
 read_block_spec =

@@ -12,13 +12,13 @@ returns c =
     let j = b.before in
     let i = j.before in
     rw (
-      i.before.begins.ensures,
-      i.begins2.ensures,
-      j.begins3.ensures,
-      b.begins4.ensures,
-      accepted.is-accepted.ensures,
-      book.is-book.ensures,
-      c.second-in.ensures,
+      i.before.begins-a.ensures,
+      i.begins-i.ensures,
+      j.begins-j.ensures,
+      b.begins-b.ensures,
+      accepted.is_accepted-accepted.ensures,
+      book.is_book-book.ensures,
+      c.second_in-second.ensures,
       tested _ 76,
     )
 

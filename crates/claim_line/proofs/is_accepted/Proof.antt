@@ -22,13 +22,13 @@ numbered Refusal.NoTable = refl
 numbered Refusal.SpoiledTable = refl
 numbered Refusal.NotDefined = refl
 
-accepted : tie.Need-returns
+accepted : tie.Need-returns-in-Accepted
 unfolding is_accepted_of answered ◌=?◌
-accepted c = rw (c.before.before.reading.given.1, c.number.ensures)
+accepted c = rw (c.before.in-Accepted.is, c.number.ensures)
 
-refused : tie.Need-returns-2
+refused : tie.Need-returns-in-Refused
 unfolding is_accepted_of answered
-refused c = rw c.enum_told.given.1 (numbered c.enum_told.given.0.0)
+refused c = rw c.in-Refused.is (numbered c.in-Refused.field-0)
 
 pub is_accepted_spec : {M : Type 1} → statement M
 is_accepted_spec = tie.close (tie.spec (search rules) (search rules) (search rules) accepted refused)

@@ -9,5 +9,5 @@ is_book_spec =
     tie.close
     (tie.spec
     (search rules) (search rules) (search rules)
-    (λ c. rw c.before.before.reading.given.1 c.by-the-book.ensures)
-    (λ c. rw c.enum_told.given.1))
+    (λ c. rw c.before.in-Accepted.is c.by_the_book.ensures)
+    (λ c. rw c.in-Refused.is))

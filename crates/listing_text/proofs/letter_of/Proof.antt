@@ -12,6 +12,6 @@ letter_of_spec =
     (λ c. second _
     (fails _ (no≤ (omega (arith, get_or-eq_default (c.before.args.line.now) 0 {n = 0} (omega arith))))) refl)
     (search rules)
-    (λ c. second _ (fails _ (no≤ c.if2.true)) refl)
-    (λ c. second _ (holds (yes≤ c.before.if2.false) (no≤ c.if3.true)) refl)
-    (λ c. first _ (and (yes≤ c.before.if2.false) (yes≤ c.if3.false)) refl))
+    (λ c. second _ (fails _ (no≤ c.if-first-lt65.true)) refl)
+    (λ c. second _ (holds (yes≤ c.before.if-first-lt65.false) (no≤ c.if-first-gt90.true)) refl)
+    (λ c. first _ (and (yes≤ c.before.if-first-lt65.false) (yes≤ c.if-first-gt90.false)) refl))

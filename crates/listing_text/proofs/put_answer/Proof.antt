@@ -13,9 +13,9 @@ returns c =
     let second = answer.before.before.before.before.before in
     let letter = second.before.before.before.before in
     let first = letter.before.before.before.before.before in
-    rw (letter.before.letter-of.ensures, number_is _ answer.before.number.ensures)
-    at (then first.put_byte.ensures
-    (then letter.put-byte2.ensures (then second.put-byte3.ensures answer.put-nat.ensures)))
+    rw (letter.before.letter_of.ensures, number_is _ answer.before.number.ensures)
+    at (then first.put_byte-at_letter.ensures
+    (then letter.put_byte-at_space.ensures (then second.put_byte-at_answer.ensures answer.put_nat.ensures)))
 
 pub put_answer_spec : {M : Type 1} → statement M
 put_answer_spec =

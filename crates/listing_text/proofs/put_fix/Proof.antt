@@ -11,8 +11,8 @@ returns c =
     let second = gps.before.before.before.before in
     let pressure = second.before.before.before.before in
     let first = pressure.before.before.before.before in
-    then first.put_byte.ensures
-    (then pressure.put.ensures (then second.put-byte2.ensures gps.put2.ensures))
+    then first.put_byte-at_pressure.ensures
+    (then pressure.put-at_space.ensures (then second.put_byte-at_gps.ensures gps.put.ensures))
 
 pub put_fix_spec : {M : Type 1} → statement M
 put_fix_spec = tie.close (tie.spec (search rules) (search rules) (search rules) (search rules) (search rules) returns)

@@ -10,7 +10,7 @@ unfolding head_text plain
 returns c =
     let answer = c.before.before in
     let number = answer.before.before.before.before in
-    then number.put-nat.ensures answer.put-answer.ensures
+    then number.put_nat-at_answer.ensures answer.put_answer.ensures
 
 pub put_head_spec : {M : Type 1} → statement M
 put_head_spec = tie.close (tie.spec (search rules) (search rules) (search rules) returns)

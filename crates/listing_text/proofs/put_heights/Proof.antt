@@ -4,11 +4,11 @@ use Rattle.listing_text.specs.Line.{heights_of}
 use Rattle.listing_text.proofs.put_heights.Statement.{statement}
 use Rattle.listing_text.proofs.put_heights.Tie as tie
 
-fix : tie.Need-returns
+fix : tie.Need-returns-in-Fix
 unfolding heights_of
 fix c =
     let put = c.before.before in
-    rw put.before.before.before.fix.given.1 put.put-fix.ensures
+    rw put.before.before.in-Fix.is put.put_fix.ensures
 
 pub put_heights_spec : {M : Type 1} → statement M
 unfolding heights_of
@@ -17,4 +17,4 @@ put_heights_spec =
     (tie.spec
     (search rules) (search rules) (search rules) (search rules)
     fix
-    (λ c. rw c.enum_told.given.1 (wrote_nothing _ _ (omega arith) (omega arith))))
+    (λ c. rw c.in-Missing.is (wrote_nothing _ _ (omega arith) (omega arith))))

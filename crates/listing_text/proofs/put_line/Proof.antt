@@ -11,8 +11,8 @@ returns c =
     let heights = lf.before.before.before.before in
     let fix = heights.before in
     let head = fix.before.before.before.before in
-    then head.put-head.ensures
-    (then (rw fix.fix.ensures at heights.put-heights.ensures) lf.put_byte.ensures)
+    then head.put_head-at_heights.ensures
+    (then (rw fix.fix.ensures at heights.put_heights-at_end.ensures) lf.put_byte.ensures)
 
 pub put_line_spec : {M : Type 1} → statement M
 put_line_spec = tie.close (tie.spec (search rules) (search rules) (search rules) (search rules) (search rules) returns)

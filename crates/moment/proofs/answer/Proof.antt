@@ -3,22 +3,22 @@ use Rattle.moment.specs.Moment.{found_by, found, asked, by_index}
 use Rattle.moment.proofs.answer.Statement.{statement}
 use Rattle.moment.proofs.answer.Tie as tie
 
-refused : tie.Need-returns
+refused : tie.Need-returns-in-Refused
 unfolding by_index asked
-refused c = rw c.before.time.given.1
+refused c = rw c.in-Refused.is
 
-nowhere : tie.Need-returns-2
+nowhere : tie.Need-returns-in-Nowhere
 unfolding by_index asked found_by found
 nowhere c =
-    let held = c.before.before in
-    rw (held.before.before.before.time2.given.1, sym held.first-in.ensures, c.enum_told.given.1)
+    let held = c.before in
+    rw (held.before.before.in-Ok.is, sym held.first_in.ensures, c.in-Nowhere.is)
 
-somewhere : tie.Need-returns-3
+somewhere : tie.Need-returns-in-At
 unfolding by_index asked found_by found
 somewhere c =
-    let place = c.before.before in
-    let held = place.before.before in
-    rw (held.before.before.before.time2.given.1, sym held.first-in.ensures, place.place.given.1)
+    let place = c.before in
+    let held = place.before in
+    rw (held.before.before.in-Ok.is, sym held.first_in.ensures, place.in-At.is)
     c.search.ensures
 
 pub answer_spec : {M : Type 1} → statement M

@@ -8,4 +8,4 @@ find_spec =
     tie.close
     (tie.spec
     (search rules) (search rules)
-    (λ c. c.answer.ensures ∙ ap (by_index _ _) c.before.from-hms.ensures))
+    (λ c. c.answer.ensures ∙ ap (by_index _ _) c.before.from_hms.ensures))

@@ -5,16 +5,16 @@ use Rattle.moment.specs.Moment.{found_from, asked, by_walk}
 use Rattle.moment.proofs.find_by_walk.Statement.{statement}
 use Rattle.moment.proofs.find_by_walk.Tie as tie
 
-refused : tie.Need-returns
+refused : tie.Need-returns-in-Refused
 unfolding by_walk asked
-refused c = ap (by_walk _) (came time_res c.before.no-time.given.1 c.before.before.before.from-hms.ensures)
+refused c = ap (by_walk _) (came time_res c.in-Refused.is c.before.from_hms.ensures)
 
 -- the search from place 0 is the walk
-searched : tie.Need-returns-2
+searched : tie.Need-returns-in-Ok
 unfolding by_walk asked found_from readings
 searched c =
-    let time = c.before.before in
-    c.search.ensures ∙ ap (by_walk _) (came time_res time.time.given.1 time.before.before.from-hms.ensures)
+    let time = c.before in
+    c.search.ensures ∙ ap (by_walk _) (came time_res time.in-Ok.is time.before.from_hms.ensures)
 
 pub find_by_walk_spec : {M : Type 1} → statement M
 find_by_walk_spec =

@@ -7,38 +7,38 @@ use Rattle.moment.proofs.Hours.{Indexed, indexed_start, indexed_end, indexed_new
 use Rattle.moment.proofs.index_of.Statement.{statement}
 use Rattle.moment.proofs.index_of.Tie as tie
 
-abbrev invariant-loop : tie.invariant-loop
+abbrev invariant-loop : tie.invariant-loop-place
 invariant-loop log index₀ place₀ index place = Indexed log place index
 
-abbrev decreases-loop : tie.decreases-loop
+abbrev decreases-loop : tie.decreases-loop-place
 decreases-loop log index₀ place₀ index place = length log - place
 
 -- the hour of the line
-hour : (c : tie.After-hour-of invariant-loop decreases-loop) →
-    c.hour-of.result ≡ hour_of_lem (answer_fix (reading_res c.before.before.read_at.result.reading))
-hour c = c.hour-of.ensures ∙ ap hour_of_lem c.before.fix.ensures
+hour : (c : tie.After-hour_of-hour invariant-loop decreases-loop) →
+    c.hour_of-hour.result ≡ hour_of_lem (answer_fix (reading_res c.before.before.read_at-got.result.reading))
+hour c = c.hour_of-hour.ensures ∙ ap hour_of_lem c.before.fix.ensures
 
 -- it is stored in the index
-inside : (c : tie.Then1 invariant-loop decreases-loop) → c.before.before.hour-of.result < 25
-inside c = lacks_inside _ _ (sym c.before.lacks.ensures ∙ c.if1.true)
+inside : (c : tie.Then-lacks invariant-loop decreases-loop) → c.before.before.hour_of-hour.result < 25
+inside c = lacks_inside _ _ (sym c.before.lacks.ensures ∙ c.if-lacks.true)
 
-near : (c : tie.After-read-at invariant-loop decreases-loop) →
+near : (c : tie.After-read_at-got invariant-loop decreases-loop) →
     let l = c.before.before in
     let s = l.before.before.before.args.log.now in
-    length s - c.read_at.result.next < length s - l.loop.place
-near c = nearer c.before.before.loop.invariant c.before.loop-test.true c.read_at.ensures
+    length s - c.read_at-got.result.next < length s - l.loop-place.place
+near c = nearer c.before.before.loop-place.invariant c.before.loop-place-test.true c.read_at-got.ensures
 
-new : tie.Need-loop-preserved invariant-loop decreases-loop
+new : tie.Need-loop-place-preserved-then-lacks invariant-loop decreases-loop
 new c =
     let read = c.before.before.before.before in
-    indexed_new read.before.before.loop.invariant read.before.loop-test.true read.read_at.ensures
-    (hour c.before.before) (sym c.before.lacks.ensures ∙ c.if1.true)
+    indexed_new read.before.before.loop-place.invariant read.before.loop-place-test.true read.read_at-got.ensures
+    (hour c.before.before) (sym c.before.lacks.ensures ∙ c.if-lacks.true)
 
-old : tie.Need-loop-preserved-2 invariant-loop decreases-loop
+old : tie.Need-loop-place-preserved invariant-loop decreases-loop
 old c =
     let read = c.before.before.before.before in
-    indexed_old read.before.before.loop.invariant read.before.loop-test.true read.read_at.ensures
-    (hour c.before.before) (sym c.before.lacks.ensures ∙ c.if1.false)
+    indexed_old read.before.before.loop-place.invariant read.before.loop-place-test.true read.read_at-got.ensures
+    (hour c.before.before) (sym c.before.lacks.ensures ∙ c.if-lacks.false)
 
 pub index_of_spec : {M : Type 1} → statement M
 index_of_spec =
@@ -47,7 +47,7 @@ index_of_spec =
     invariant-loop
     decreases-loop
     (search rules)
-    (λ c. indexed_start c.new.ensures)
+    (λ c. indexed_start c.new-index.ensures)
     (search rules) (search rules) (search rules) (search rules)
     (λ c. record { fits = omega (arith, inside c) })
     inside
@@ -55,4 +55,4 @@ index_of_spec =
     new
     (λ c. near (search rules))
     old
-    (λ c. indexed_end c.before.loop.invariant c.loop-test.false))
+    (λ c. indexed_end c.before.loop-place.invariant c.loop-place-test.false))

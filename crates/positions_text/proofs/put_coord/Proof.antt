@@ -11,7 +11,7 @@ use Rattle.positions_text.proofs.put_coord.Tie as tie
 abbrev value : tie.Start → ℤ
 value c = c.args.coord.value
 
-fits : (c : tie.After-struct-told) → SFits w64 (value (search rules))
+fits : (c : tie.After-struct_told-1) → SFits w64 (value (search rules))
 fits c = search rules
 
 returns : tie.Need-returns
@@ -22,8 +22,8 @@ returns c =
     let number = second.before.before.before.before in
     let first = number.before.before.before.before.before in
     rw (to_z-of_z (fits number.before))
-    at (then first.put_byte.ensures
-    (then number.put-int.ensures (then second.put-byte2.ensures n.put-nat.ensures)))
+    at (then first.put_byte-at_value.ensures
+    (then number.put_int-at_space.ensures (then second.put_byte-at_n.ensures n.put_nat.ensures)))
 
 pub put_coord_spec : {M : Type 1} → statement M
 put_coord_spec =

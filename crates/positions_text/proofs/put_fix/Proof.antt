@@ -10,8 +10,8 @@ returns c =
     let end = c.before.before in
     let position = end.before.before.before.before in
     let number = position.before.before.before.before in
-    rw number.before.before.of.ensures
-    at (then number.put-nat.ensures (then position.put-position.ensures end.put_byte.ensures))
+    rw number.before.before.of-read.ensures
+    at (then number.put_nat-at_position.ensures (then position.put_position-at_end.ensures end.put_byte.ensures))
 
 pub put_fix_spec : {M : Type 1} → statement M
 put_fix_spec =

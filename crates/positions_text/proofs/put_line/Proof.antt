@@ -4,18 +4,18 @@ use Rattle.positions_text.specs.Positions.{maybe_shown, positions_line}
 use Rattle.positions_text.proofs.put_line.Statement.{statement}
 use Rattle.positions_text.proofs.put_line.Tie as tie
 
-fix : tie.Need-returns
+fix : tie.Need-returns-in-Fix
 unfolding positions_line maybe_shown
 fix c =
-    let e : tie.After-fix2 = search rules in
+    let e : tie.In-Fix = search rules in
     let f : tie.After-fix = search rules in
-    rw (sym f.fix.ensures ∙ e.fix2.given.1) c.before.before.put-fix.ensures
+    rw (sym f.fix.ensures ∙ e.in-Fix.is) c.before.before.put_fix.ensures
 
-none : tie.Need-returns-2
+none : tie.Need-returns-in-Missing
 unfolding positions_line maybe_shown
 none c =
     let f : tie.After-fix = search rules in
-    rw (sym f.fix.ensures ∙ c.enum_told.given.1) (wrote_nothing _ _ (omega arith) (omega arith))
+    rw (sym f.fix.ensures ∙ c.in-Missing.is) (wrote_nothing _ _ (omega arith) (omega arith))
 
 pub put_line_spec : {M : Type 1} → statement M
 put_line_spec =

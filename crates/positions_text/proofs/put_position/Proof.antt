@@ -4,13 +4,13 @@ use Rattle.positions_text.specs.Positions.{position_shown}
 use Rattle.positions_text.proofs.put_position.Statement.{statement}
 use Rattle.positions_text.proofs.put_position.Tie as tie
 
-both : tie.Need-returns
+both : tie.Need-returns-in-Ok
 unfolding position_shown
-both c = let e : tie.After-read = search rules in rw e.read.given.1 (search (then))
+both c = let e : tie.In-Ok = search rules in rw e.in-Ok.is (search (then))
 
-refused : tie.Need-returns-2
+refused : tie.Need-returns-in-Refused
 unfolding position_shown
-refused c = let e : tie.After-read2 = search rules in rw e.read2.given.1 c.before.before.put-refusal.ensures
+refused c = let e : tie.In-Refused = search rules in rw e.in-Refused.is c.before.before.put_refusal.ensures
 
 pub put_position_spec : {M : Type 1} → statement M
 put_position_spec =

@@ -11,7 +11,7 @@ returns c =
     let number = place.before.before.before.before.before in
     let space = number.before.before.before.before.before in
     rw (number.before.number.ensures, place.before.place.ensures)
-    at (then space.put_byte.ensures (then number.put-nat.ensures place.put-place.ensures))
+    at (then space.put_byte-at_number.ensures (then number.put_nat-at_place.ensures place.put_place.ensures))
 
 pub put_refusal_spec : {M : Type 1} → statement M
 put_refusal_spec =

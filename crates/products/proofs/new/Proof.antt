@@ -9,4 +9,4 @@ new_spec =
     tie.close
     (tie.spec
     (search rules) (search rules) (search rules)
-    (λ c. rw (c.before.before.new.ensures, c.before.new2.ensures, c.new3.ensures)))
+    (λ c. rw (c.before.before.new-held.ensures, c.before.new-at.ensures, c.new-trailer.ensures)))

@@ -10,6 +10,6 @@ put_closing_spec =
     tie.close
     (tie.spec
     (search rules) (search rules) (search rules) (search rules) (search rules)
-    (λ c. let put = c.before.before in rw put.before.before.enum_told.given.1 put.put.ensures)
-    (λ c. rw c.enum-told2.given.1 (wrote_nothing _ _ (omega arith) (omega arith)))
-    (λ c. rw c.enum-told3.given.1 (wrote_nothing _ _ (omega arith) (omega arith))))
+    (λ c. let put = c.before.before in rw put.before.before.in-Listing.is put.put.ensures)
+    (λ c. rw c.in-Fields.is (wrote_nothing _ _ (omega arith) (omega arith)))
+    (λ c. rw c.in-Positions.is (wrote_nothing _ _ (omega arith) (omega arith))))

@@ -9,8 +9,8 @@ put_line_spec =
     tie.close
     (tie.spec
     (search rules) (search rules) (search rules) (search rules) (search rules) (search rules) (search rules)
-    (λ c. let put = c.before.before in rw put.before.before.enum_told.given.1 put.put-line.ensures)
+    (λ c. let put = c.before.before in rw put.before.before.in-Listing.is put.put_line.ensures)
     (search rules)
-    (λ c. let put = c.before.before in rw put.before.before.enum-told2.given.1 put.put-line2.ensures)
+    (λ c. let put = c.before.before in rw put.before.before.in-Fields.is put.put_line-in-Fields.ensures)
     (search rules)
-    (λ c. let put = c.before.before in rw put.before.before.enum-told3.given.1 put.put-line3.ensures))
+    (λ c. let put = c.before.before in rw put.before.before.in-Positions.is put.put_line-in-Positions.ensures))

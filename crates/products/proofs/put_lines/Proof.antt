@@ -2,21 +2,21 @@ use Rattle.text.proofs.Prelude.{rules, refl, sym, ◌∙◌}
 use Rattle.products.proofs.put_lines.Statement.{statement}
 use Rattle.products.proofs.put_lines.Tie as tie
 
-ready : tie.Need-returns
+ready : tie.Need-returns-then-is_ready
 ready c =
     let put = c.before.before in
     let test = put.before.before in
-    rw (sym test.before.is-ready.ensures ∙ test.if1.true) put.put-ready.ensures
+    rw (sym test.before.is_ready.ensures ∙ test.if-is_ready.true) put.put_ready.ensures
 
-not_ready : tie.Need-returns-2
-not_ready c = rw (sym c.before.is-ready.ensures ∙ c.if1.false) (refl, refl)
+not_ready : tie.Need-returns
+not_ready c = rw (sym c.before.is_ready.ensures ∙ c.if-is_ready.false) (refl, refl)
 
 pub put_lines_spec : {M : Type 1} → statement M
 put_lines_spec =
     tie.close
     (tie.spec
     (search rules)
-    (λ c κs. let test = c.before in sym test.before.is-ready.ensures ∙ test.if1.true)
+    (λ c κs. let test = c.before in sym test.before.is_ready.ensures ∙ test.if-is_ready.true)
     (search rules)
     ready
     not_ready)

@@ -9,79 +9,79 @@ use Rattle.reported.proofs.Pieces.{Taken, at_start, at_end, line, near}
 use Rattle.reported.proofs.report_from.Statement.{statement}
 use Rattle.reported.proofs.report_from.Tie as tie
 
-abbrev invariant-loop : tie.invariant-loop
+abbrev invariant-loop : tie.invariant-loop-at
 invariant-loop place piece answers₀ figures₀ at₀ answers figures at =
     (length answers ≡ numbers) × Taken (flat_in answers₀ figures₀) place piece at (flat_in answers figures)
 
-abbrev decreases-loop : tie.decreases-loop
+abbrev decreases-loop : tie.decreases-loop-at
 decreases-loop place piece answers₀ figures₀ at₀ answers figures at = length piece - at
 
 wide : (c : tie.Start invariant-loop decreases-loop) → length c.args.before.answers ≡ numbers
 wide c = search rules
 
-number : (c : tie.After-look invariant-loop decreases-loop) → c.look.result.number < numbers
-number c = number_small _ c.look.ensures
+number : (c : tie.After-look-seen invariant-loop decreases-loop) → c.look-seen.result.number < numbers
+number c = number_small _ c.look-seen.ensures
 
-add_answers : tie.Need-overflow-add-answers invariant-loop decreases-loop
+add_answers : tie.Need-overflow_add-answers invariant-loop decreases-loop
 add_answers c =
-    let room = room_says _ _ _ _ (sym c.before.has_room.ensures ∙ c.if1.true) in
+    let room = room_says _ _ _ _ (sym c.before.has_room.ensures ∙ c.if-has_room.true) in
     record { fits = omega (arith, room.1) }
 
-add_after : tie.Need-overflow-add-after invariant-loop decreases-loop
+add_after : tie.Need-overflow_add-place invariant-loop decreases-loop
 add_after c =
     let test = c.before.before.before.before.before.before.before in
     let start = test.before.before.before.before.before in
-    record { fits = omega (arith, test.loop-test.true, start.requires) }
+    record { fits = omega (arith, test.loop-at-test.true, start.requires) }
 
-after_requires : tie.Need-after-requires invariant-loop decreases-loop
+after_requires : tie.Need-after-figures-requires invariant-loop decreases-loop
 after_requires c κs =
-    let room = room_says _ _ _ _ (sym c.before.has_room.ensures ∙ c.if1.true) in
+    let room = room_says _ _ _ _ (sym c.before.has_room.ensures ∙ c.if-has_room.true) in
     (omega (arith, room.0), room.2)
 
-loop-less : tie.Need-loop-smaller invariant-loop decreases-loop
+loop-less : tie.Need-loop-at-smaller-then-has_room invariant-loop decreases-loop
 loop-less c =
     let look = c.before.before.before.before in
     let cut = look.before.before.before in
-    near cut.before.before.loop.invariant.1 cut.before.loop-test.true cut.cut_at.ensures
+    near cut.before.before.loop-at.invariant.1 cut.before.loop-at-test.true cut.cut_at-cut.ensures
 
-loop-again : tie.Need-loop-preserved invariant-loop decreases-loop
+loop-again : tie.Need-loop-at-preserved-then-has_room invariant-loop decreases-loop
 unfolding one_more
 loop-again c =
     let room = c.before.before in
     let look = room.before.before in
     let cut = look.before.before.before in
     let at = cut.before.before in (
-      length-set at.loop.answers _ _ ∙ at.loop.invariant.0,
-      line at.loop.invariant.1 cut.before.loop-test.true cut.cut_at.ensures
+      length-set at.loop-at.answers _ _ ∙ at.loop-at.invariant.0,
+      line at.loop-at.invariant.1 cut.before.loop-at-test.true cut.cut_at-cut.ensures
           look.before.view.ensures.bytes
-          (c.after.ensures _
-          ∙ taken _ _ _ look.look.ensures refl room.has_room.ensures c.before.if1.true
-          at.loop.invariant.0),
+          (c.after-figures.ensures _
+          ∙ taken _ _ _ look.look-seen.ensures refl room.has_room.ensures c.before.if-has_room.true
+          at.loop-at.invariant.0),
     )
 
-loop-less-2 : tie.Need-loop-smaller-2 invariant-loop decreases-loop
+loop-less-2 : tie.Need-loop-at-smaller invariant-loop decreases-loop
 loop-less-2 c =
     let cut = c.before.before.before.before.before.before in
-    near cut.before.before.loop.invariant.1 cut.before.loop-test.true cut.cut_at.ensures
+    near cut.before.before.loop-at.invariant.1 cut.before.loop-at-test.true cut.cut_at-cut.ensures
 
-loop-again-2 : tie.Need-loop-preserved-2 invariant-loop decreases-loop
+loop-again-2 : tie.Need-loop-at-preserved invariant-loop decreases-loop
 loop-again-2 c =
     let room = c.before in
     let look = room.before.before in
     let cut = look.before.before.before in
     let at = cut.before.before in (
-      at.loop.invariant.0,
-      line at.loop.invariant.1 cut.before.loop-test.true cut.cut_at.ensures
+      at.loop-at.invariant.0,
+      line at.loop-at.invariant.1 cut.before.loop-at-test.true cut.cut_at-cut.ensures
           look.before.view.ensures.bytes
-          (kept _ _ _ look.look.ensures refl room.has_room.ensures c.if1.false),
+          (kept _ _ _ look.look-seen.ensures refl room.has_room.ensures c.if-has_room.false),
     )
 
 returns : tie.Need-returns invariant-loop decreases-loop
 returns c =
     let loop = c.before.before in
     let start = loop.before.before.before.before in
-    c.report.ensures ∙ at_end loop.loop.invariant.1 c.before.loop-test.false
-    ∙ ap (λ f. figures_on f start.args.place (start.args.piece.now)) loop.before.of.ensures
+    c.report.ensures ∙ at_end loop.loop-at.invariant.1 c.before.loop-at-test.false
+    ∙ ap (λ f. figures_on f start.args.place (start.args.piece.now)) loop.before.of-figures.ensures
 
 pub report_from_spec : {M : Type 1} → statement M
 report_from_spec =

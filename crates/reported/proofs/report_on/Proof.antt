@@ -12,4 +12,4 @@ report_on_spec =
     (λ c. second _ (no≤ (omega arith)) refl)
     (search rules)
     (search rules)
-    (λ c. first _ (yes≤ (omega arith)) (rw c.report-from.ensures)))
+    (λ c. first _ (yes≤ (omega arith)) (rw c.report_from.ensures)))

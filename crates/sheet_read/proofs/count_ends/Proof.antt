@@ -6,37 +6,37 @@ use Rattle.sheet_read.proofs.Lines.{end_here, no_end_here, ends_counted}
 use Rattle.sheet_read.proofs.count_ends.Statement.{statement}
 use Rattle.sheet_read.proofs.count_ends.Tie as tie
 
-abbrev invariant-loop : tie.invariant-loop
+abbrev invariant-loop : tie.invariant-loop-i
 invariant-loop text count₀ i₀ count i = (i ≤ length text) × (count ≤ i) × (count + ends (drop i text) ≡ ends text)
 
-abbrev decreases-loop : tie.decreases-loop
+abbrev decreases-loop : tie.decreases-loop-i
 decreases-loop text count₀ i₀ count i = length text - i
 
-loop-holds : tie.Need-loop-init invariant-loop decreases-loop
+loop-holds : tie.Need-loop-i-init invariant-loop decreases-loop
 loop-holds c = (search rules, search rules, omega arith)
 
-shared_slice_read_if1 : tie.Need-shared-slice-read-if1 invariant-loop decreases-loop
+shared_slice_read_if1 : tie.Need-bounds-text-i invariant-loop decreases-loop
 shared_slice_read_if1 c = search rules
 
-add_count : tie.Need-overflow-add-count invariant-loop decreases-loop
+add_count : tie.Need-overflow_add-count invariant-loop decreases-loop
 add_count c = search rules
 
-add_i : tie.Need-overflow-add-i invariant-loop decreases-loop
+add_i : tie.Need-overflow_add-i invariant-loop decreases-loop
 add_i c = search rules
 
-loop-less : tie.Need-loop-smaller invariant-loop decreases-loop
+loop-less : tie.Need-loop-i-smaller invariant-loop decreases-loop
 loop-less c = search rules
 
-loop-again : tie.Need-loop-preserved invariant-loop decreases-loop
+loop-again : tie.Need-loop-i-preserved invariant-loop decreases-loop
 loop-again c =
-    let l = c.before.before.before.loop in
+    let l = c.before.before.before.loop-i in
     ⊎_elim
     (λ w. (search rules, search rules, rw w.1 (end_here _ _ l.i (search rules) l.invariant.2 w.0.taken)))
     (λ w. (search rules, search rules, rw w.1 (no_end_here _ _ l.i (search rules) l.invariant.2 w.0.left)))
-    c.if1.branch
+    c.if-text-i-eq10.branch
 
 returns : tie.Need-returns invariant-loop decreases-loop
-returns c = let l = c.before.loop in ends_counted _ _ l.i (search rules) l.invariant.2
+returns c = let l = c.before.loop-i in ends_counted _ _ l.i (search rules) l.invariant.2
 
 pub count_ends_spec : {M : Type 1} → statement M
 count_ends_spec =

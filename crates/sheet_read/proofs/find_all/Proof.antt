@@ -8,34 +8,34 @@ use Rattle.sheet_read.proofs.find_all.Statement.{statement}
 use Rattle.sheet_read.proofs.find_all.Tie as tie
 
 -- from here on it is the same line
-abbrev invariant-loop : tie.invariant-loop
+abbrev invariant-loop : tie.invariant-loop-i
 invariant-loop text start₀ i₀ t4 start i = (i ≤ length text) × (from_all_of start (drop i text) ≡ from_all_of true text)
 
-abbrev decreases-loop : tie.decreases-loop
+abbrev decreases-loop : tie.decreases-loop-i
 decreases-loop text start₀ i₀ t4 start i = length text - i
 
-found : tie.Need-returns invariant-loop decreases-loop
+found : tie.Need-returns-then-starts_with invariant-loop decreases-loop
 unfolding spelt spelt_from
 found c =
-    let l : tie.At-loop invariant-loop decreases-loop = search rules in
-    let t : tie.Then1 invariant-loop decreases-loop = search rules in (
-      all_here _ l.loop.i l.loop.start (search rules) l.loop.inv.1 t.if1.taken
-          (sym (rw (rest_of _ l.loop.i) at c.before.starts-with.ensures) ∙ c.if2.true),
+    let l : tie.At-loop-i invariant-loop decreases-loop = search rules in
+    let t : tie.Then-start invariant-loop decreases-loop = search rules in (
+      all_here _ l.loop-i.i l.loop-i.start (search rules) l.loop-i.invariant.1 t.if-start.true
+          (sym (rw (rest_of _ l.loop-i.i) at c.before.starts_with.ensures) ∙ c.if-starts_with.true),
       search rules,
     )
 
-again : tie.Need-loop-preserved invariant-loop decreases-loop
+again : tie.Need-loop-i-preserved invariant-loop decreases-loop
 unfolding spelt spelt_from ◌=?◌
 again c =
-    let l : tie.At-loop invariant-loop decreases-loop = search rules in (
+    let l : tie.At-loop-i invariant-loop decreases-loop = search rules in (
       search rules,
-      not_here _ l.loop.i l.loop.start (search rules) l.loop.inv.1 (⊎_elim
-          (λ w. holds w.0.taken (sym (rw (rest_of _ l.loop.i) at w.3.ensures) ∙ w.4.left))
-          (λ w. fails _ w.left) c.before.if1.branch),
+      not_here _ l.loop-i.i l.loop-i.start (search rules) l.loop-i.invariant.1 (⊎_elim
+          (λ w. holds w.0.taken (sym (rw (rest_of _ l.loop-i.i) at w.3.ensures) ∙ w.4.left))
+          (λ w. fails _ w.left) c.before.if-start.branch),
     )
 
-ends : tie.Need-returns-2 invariant-loop decreases-loop
-ends c = let l = c.before.loop in (none_here _ l.i l.start (search rules) l.invariant.1, search rules)
+ends : tie.Need-returns invariant-loop decreases-loop
+ends c = let l = c.before.loop-i in (none_here _ l.i l.start (search rules) l.invariant.1, search rules)
 
 pub find_all_spec : {M : Type 1} → statement M
 find_all_spec =
@@ -44,7 +44,7 @@ find_all_spec =
     invariant-loop
     decreases-loop
     (λ c. (search rules, refl))
-    (search rules) (search rules) (search rules) (search rules) (search rules)
+    (search rules) (search rules) (search rules) (search rules)
     found
     (search rules) (search rules) (search rules)
     again

@@ -9,54 +9,54 @@ use Rattle.sheet_read.proofs.read_sheet.Statement.{statement}
 use Rattle.sheet_read.proofs.read_sheet.Tie as tie
 
 -- what was read of the last block
-block : (c : tie.After-read-block) →
-    block_read c.read-block.result ≡
-    block_of (drop c.before.before.find-all.result (c.before.before.before.before.args.text.now))
-block c = rw (rest_of _ c.before.before.find-all.result) at c.read-block.ensures
+block : (c : tie.After-read_block-block) →
+    block_read c.read_block-block.result ≡
+    block_of (drop c.before.before.find_all-at.result (c.before.before.before.before.args.text.now))
+block c = rw (rest_of _ c.before.before.find_all-at.result) at c.read_block-block.ensures
 
-inside : (c : tie.After-read-block) →
+inside : (c : tie.After-read_block-block) →
     let text = c.before.before.before.before.args.text.now in
-    c.before.before.find-all.result + c.read-block.result.end ≤ length text
+    c.before.before.find_all-at.result + c.read_block-block.result.end ≤ length text
 inside c =
-    let f = c.before.before.find-all in
+    let f = c.before.before.find_all-at in
     stop_inside _ f.result f.ensures.1 f.ensures.0 (block c)
 
-add_stop : tie.Need-overflow-add-stop
+add_stop : tie.Need-overflow_add-stop
 add_stop c = let h = inside c.before in search rules
 
-all : tie.Need-returns
+all : tie.Need-returns-then-stop-text
 unfolding beside
 all c =
-    let r : tie.After-read-block = search rules in
-    let f = r.before.before.find-all in
-    let g : tie.Then1 = search rules in
-    let e : tie.Then2 = search rules in
-    let read = rw g.if1.taken at (block r) in
-    ap beside (sheet_whole _ f.result f.ensures.1 f.ensures.0 read e.if2.taken)
+    let r : tie.After-read_block-block = search rules in
+    let f = r.before.before.find_all-at in
+    let g : tie.Then-block = search rules in
+    let e : tie.Then-stop-text = search rules in
+    let read = rw g.if-block.true at (block r) in
+    ap beside (sheet_whole _ f.result f.ensures.1 f.ensures.0 read e.if-stop-text.true)
 
 part_end : tie.Need-slice-bounds-count-ends-end
 part_end c = let h = inside c.before.before in search rules
 
-add_line : tie.Need-overflow-add-line
+add_line : tie.Need-overflow_add-line
 add_line c =
-    let r : tie.After-read-block = search rules in
-    let f = r.before.before.find-all in
+    let r : tie.After-read_block-block = search rules in
+    let f = r.before.before.find_all-at in
     omega (
       arith,
-      c.count-ends.ensures,
-      ends_part (f.result + r.read-block.result.end - 0)
+      c.count_ends-line.ensures,
+      ends_part (f.result + r.read_block-block.result.end - 0)
           (r.before.before.before.before.args.text.now),
     )
 
-stopped : tie.Need-returns-2
+stopped : tie.Need-returns
 unfolding beside
 stopped c =
-    let r : tie.After-read-block = search rules in
-    let f = r.before.before.find-all in
-    let j : tie.Joined1 = search rules in
-    rw (c.new.ensures, c.before.count-ends.ensures, sub-zero)
+    let r : tie.After-read_block-block = search rules in
+    let f = r.before.before.find_all-at in
+    let j : tie.Joined-block = search rules in
+    rw (c.new.ensures, c.before.count_ends-line.ensures, sub-zero)
     (ap beside (sheet_stopped _ f.result f.ensures.1 f.ensures.0 (block r)
-    (λ g e. ⊎_elim (λ w. w.1.left e) (λ w. never g w.left) j.if1.came)))
+    (λ g e. ⊎_elim (λ w. w.1.left e) (λ w. never g w.left) j.if-block.came)))
 
 pub read_sheet_spec : {M : Type 1} → statement M
 read_sheet_spec =

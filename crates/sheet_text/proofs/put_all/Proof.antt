@@ -10,5 +10,5 @@ unfolding all_text spelt spelt_from
 put_all_spec =
     tie.close
     (tie.spec
-    (search rules) (search rules) (search rules) (search rules)
+    (search rules) (search rules) (search rules)
     (λ c. search (then)))

@@ -9,5 +9,5 @@ kind_of_spec =
     tie.close
     (tie.spec
     (search rules) (search rules) (search rules)
-    (λ c. rw c.before.before.reading.given.1 c.kind-of-record.ensures)
-    (λ c. rw c.enum_told.given.1))
+    (λ c. rw c.before.in-Accepted.is c.kind_of_record.ensures)
+    (λ c. rw c.in-Refused.is))

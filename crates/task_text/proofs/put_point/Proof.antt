@@ -8,21 +8,21 @@ use Rattle.task_text.proofs.Putting.{no_point_text}
 use Rattle.task_text.proofs.put_point.Statement.{statement}
 use Rattle.task_text.proofs.put_point.Tie as tie
 
-none : tie.Need-returns
-none c = rw (no_point_text _ _ _ _ c.match.keys2) (wrote_nothing _ _ (omega arith) (omega arith))
+none : tie.Need-returns-in_default
+none c = rw (no_point_text _ _ _ _ c.in_default.in_default-own.keys2) (wrote_nothing _ _ (omega arith) (omega arith))
 
-point : tie.Need-returns-2
+point : tie.Need-returns
 unfolding point_text line_of caption_text
 point c =
-    let kind : tie.After-kind = search rules in
+    let kind : tie.In-Point = search rules in
     let lf = c.before.before in
     let position = lf.before.before.before.before in
     let space = position.before.before.before.before in
     let bytes = space.before.before.before.before in
     let shown = bytes.before.before in
-    rw kind.kind.given.1
-    (then (rw shown.caption.ensures.bytes at bytes.put-bytes.ensures)
-    (then space.put_byte.ensures (then position.put.ensures lf.put-byte2.ensures)))
+    rw kind.in-Point.is
+    (then (rw shown.caption-shown.ensures.bytes at bytes.put_bytes-at_space.ensures)
+    (then space.put_byte-at_position.ensures (then position.put-at_end.ensures lf.put_byte.ensures)))
 
 pub put_point_spec : {M : Type 1} → statement M
 put_point_spec =

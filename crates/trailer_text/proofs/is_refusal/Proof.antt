@@ -10,5 +10,5 @@ is_refusal_spec =
     tie.close
     (tie.spec
     (search rules)
-    (λ c. rw (← number_is _ c.before.number.ensures) (sym (fails _ (no≤ c.if1.true))))
-    (λ c. rw (← number_is _ c.before.number.ensures) (sym (holds (yes≤ c.if1.false) (tested _ _)))))
+    (λ c. rw (← number_is _ c.before.number-answer.ensures) (sym (fails _ (no≤ c.if-answer-lt1.true))))
+    (λ c. rw (← number_is _ c.before.number-answer.ensures) (sym (holds (yes≤ c.if-answer-lt1.false) (tested _ _)))))

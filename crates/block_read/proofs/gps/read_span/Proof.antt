@@ -9,29 +9,29 @@ use Rattle.block_read.proofs.Numbers.{behind_words, where_words, where_none}
 use Rattle.block_read.proofs.gps.read_span.Statement.{statement}
 use Rattle.block_read.proofs.gps.read_span.Tie as tie
 
-missing : tie.Need-returns
+missing : tie.Need-returns-then-none
 unfolding read_range none_line spelt spelt_from
 missing c =
-    let w : tie.After-read-words = search rules in
-    let t : tie.Then1 = search rules in
-    where_words _ w.read-words.ensures _ _ t.if1.taken
-    (behind_words _ w.read-words.ensures (got none) t.if1.taken (done w.read-words.ensures.inside))
+    let w : tie.After-read_words-none = search rules in
+    let t : tie.Then-none = search rules in
+    where_words _ w.read_words-none.ensures _ _ t.if-none.true
+    (behind_words _ w.read_words-none.ensures (got none) t.if-none.true (done w.read_words-none.ensures.inside))
 
-both : tie.Need-returns-2
+both : tie.Need-returns
 unfolding read_range none_line spelt spelt_from
 both c =
-    let w : tie.After-read-words = search rules in
-    let t : tie.Else1 = search rules in
-    let h : tie.After-read-height = search rules in
-    let l : tie.After-read-height2 = search rules in
-    where_none _ w.read-words.ensures _ _ t.if1.left
-    (then _ h.read-height.ensures (then _ l.read-height2.ensures (done l.read-height2.ensures.inside)))
+    let w : tie.After-read_words-none = search rules in
+    let t : tie.Else-none = search rules in
+    let h : tie.After-read_height-highest = search rules in
+    let l : tie.After-read_height-lowest = search rules in
+    where_none _ w.read_words-none.ensures _ _ t.if-none.false
+    (then _ h.read_height-highest.ensures (then _ l.read_height-lowest.ensures (done l.read_height-lowest.ensures.inside)))
 
 pub read_span_spec : {M : Type 1} → statement M
 read_span_spec =
     tie.close
     (tie.spec
-    (search rules) (search rules)
+    (search rules)
     missing
-    (search rules) (search rules) (search rules) (search rules)
+    (search rules) (search rules)
     both)

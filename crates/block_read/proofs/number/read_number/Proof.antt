@@ -15,28 +15,28 @@ use Rattle.block_read.proofs.number.read_number.Tie as tie
 abbrev front : tie.Start → ℕ
 front b = front_from 0 (here (b.args.text.now) b.args.from)
 
-fits : (c : tie.After-value) → c.value.given.0.0 ≡ front (search rules)
-fits c = front_some _ (came front_in c.value.given.1 c.before.before.front.ensures)
+fits : (c : tie.In-Value) → c.in-Value.value ≡ front (search rules)
+fits c = front_some _ (came front_in c.in-Value.is c.before.front.ensures)
 
-over : (c : tie.After-enum-told) → largest < front (search rules)
-over c = front_none _ (came front_in c.enum_told.given.1 c.before.before.front.ensures)
+over : (c : tie.In_default) → largest < front (search rules)
+over c = front_none _ (came front_in c.in_default.is c.before.front.ensures)
 
 -- the number as it prints, and the byte that closes it
-abbrev closed : tie.Else1 → List ℕ
-closed e = padded 1 e.before.before.value.given.0.0 ++
-    (e.before.before.before.before.before.before.args.close ∷ [])
+abbrev closed : tie.Else-most-value → List ℕ
+closed e = padded 1 e.before.in-Value.value ++
+    (e.before.before.before.before.args.close ∷ [])
 
-printed : (c : tie.After-put-byte) →
-    Wrote (replicate 24 0) 0 (closed (search rules)) c.put_byte.new.0 c.put_byte.result
+printed : (c : tie.After-put_byte-end) →
+    Wrote (replicate 24 0) 0 (closed (search rules)) c.put_byte-end.new.buf c.put_byte-end.result
 printed c = search (then)
 
-short : (c : tie.Else1) → length (closed c) ≤ 21
+short : (c : tie.Else-most-value) → length (closed c) ≤ 21
 short c = printed_short _ _ (search rules)
 
-ends : (c : tie.After-put-byte) → c.put_byte.result ≤ length c.put_byte.new.0
+ends : (c : tie.After-put_byte-end) → c.put_byte-end.result ≤ length c.put_byte-end.new.buf
 ends c = omega (arith, (printed c).next, short (search rules), wrote_length (printed c))
 
-whole : (c : tie.After-put-byte) → take (c.put_byte.result - 0) c.put_byte.new.0 ≡ closed (search rules)
+whole : (c : tie.After-put_byte-end) → take (c.put_byte-end.result - 0) c.put_byte-end.new.buf ≡ closed (search rules)
 whole c = printed_whole (printed c) (omega (arith, short (search rules)))
 
 pub read_number_spec : {M : Type 1} → statement M
@@ -44,14 +44,14 @@ read_number_spec =
     tie.close
     (tie.spec
     (search rules) (search rules) (search rules) (search rules)
-    (λ c. (number_over _ _ (omega (arith, over (search rules))) (search rules) c.wrong-at.ensures, search rules))
+    (λ c. (number_over _ _ (omega (arith, over (search rules))) (search rules) c.wrong_at.ensures, search rules))
     (search rules)
-    (λ c. (number_over _ _ (omega (arith, fits (search rules))) (search rules) c.wrong-at2.ensures, search rules))
+    (λ c. (number_over _ _ (omega (arith, fits (search rules))) (search rules) c.wrong_at-then-most-value.ensures, search rules))
     (search rules) (search rules) (search rules) (search rules) (search rules) (search rules)
     (λ c. ends (search rules))
     (search rules)
     (λ c. (
       number_printed _ _ (fits (search rules)) (search rules)
-          (rw (whole (search rules)) at c.read-words.ensures),
+          (rw (whole (search rules)) at c.read_words.ensures),
       search rules,
     )))

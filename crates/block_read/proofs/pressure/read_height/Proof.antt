@@ -10,9 +10,9 @@ use Rattle.block_read.proofs.pressure.read_height.Tie as tie
 height : tie.Need-returns
 unfolding read_pressure
 height c =
-    let s : tie.After-read-spot = search rules in
-    let f : SFits w16 s.read-spot.result.height = search rules in
-    rw (to_z-of_z f) (then _ s.read-spot.ensures (done s.read-spot.ensures.inside))
+    let s : tie.After-read_spot-read = search rules in
+    let f : SFits w16 s.read_spot-read.result.height = search rules in
+    rw (to_z-of_z f) (then _ s.read_spot-read.ensures (done s.read_spot-read.ensures.inside))
 
 pub read_height_spec : {M : Type 1} → statement M
 read_height_spec = tie.close (tie.spec (search rules) height)

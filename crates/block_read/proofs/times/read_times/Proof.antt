@@ -9,29 +9,29 @@ use Rattle.block_read.proofs.Numbers.{behind_words, where_words, where_none}
 use Rattle.block_read.proofs.times.read_times.Statement.{statement}
 use Rattle.block_read.proofs.times.read_times.Tie as tie
 
-missing : tie.Need-returns
+missing : tie.Need-returns-then-none
 unfolding read_times_of none_line spelt spelt_from
 missing c =
-    let w : tie.After-read-words = search rules in
-    let t : tie.Then1 = search rules in
-    where_words _ w.read-words.ensures _ _ t.if1.taken
-    (behind_words _ w.read-words.ensures (got none) t.if1.taken (done w.read-words.ensures.inside))
+    let w : tie.After-read_words-none = search rules in
+    let t : tie.Then-none = search rules in
+    where_words _ w.read_words-none.ensures _ _ t.if-none.true
+    (behind_words _ w.read_words-none.ensures (got none) t.if-none.true (done w.read_words-none.ensures.inside))
 
-there : tie.Need-returns-2
+there : tie.Need-returns
 unfolding read_times_of none_line spelt spelt_from
 there c =
-    let w : tie.After-read-words = search rules in
-    let t : tie.Else1 = search rules in
-    let h : tie.After-read-time = search rules in
-    let l : tie.After-read-time2 = search rules in
-    where_none _ w.read-words.ensures _ _ t.if1.left
-    (then _ h.read-time.ensures (then _ l.read-time2.ensures (done l.read-time2.ensures.inside)))
+    let w : tie.After-read_words-none = search rules in
+    let t : tie.Else-none = search rules in
+    let h : tie.After-read_time-first = search rules in
+    let l : tie.After-read_time-last = search rules in
+    where_none _ w.read_words-none.ensures _ _ t.if-none.false
+    (then _ h.read_time-first.ensures (then _ l.read_time-last.ensures (done l.read_time-last.ensures.inside)))
 
 pub read_times_spec : {M : Type 1} → statement M
 read_times_spec =
     tie.close
     (tie.spec
-    (search rules) (search rules)
+    (search rules)
     missing
-    (search rules) (search rules) (search rules) (search rules)
+    (search rules) (search rules)
     there)

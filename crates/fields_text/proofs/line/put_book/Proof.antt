@@ -8,20 +8,20 @@ use Rattle.fields_text.proofs.line.put_book.Statement.{statement}
 use Rattle.fields_text.proofs.line.put_book.Tie as tie
 
 -- a line answered 12
-unread : (c : tie.Then1) → [] ≡ book_shown c.before.before.before.args.rec
+unread : (c : tie.Then-number-ne0) → [] ≡ book_shown c.before.before.before.args.rec
 unfolding book_shown
-unread c = second _ (no= (λ e. c.if1.true (c.before.number.ensures ∙ e))) refl
+unread c = second _ (no= (λ e. c.if-number-ne0.true (c.before.number.ensures ∙ e))) refl
 
-accepted : (c : tie.Else1) → (accepted_as c.before.before.before.args.rec =? 0) ≡ true
-accepted c = yes= (sym c.before.number.ensures ∙ c.if1.false)
+accepted : (c : tie.Else-number-ne0) → (accepted_as c.before.before.before.args.rec =? 0) ≡ true
+accepted c = yes= (sym c.before.number.ensures ∙ c.if-number-ne0.false)
 
-yes : (c : tie.Then2) → byte_shown 121 ≡ book_shown c.before.before.before.before.before.args.rec
+yes : (c : tie.Then-by_the_book) → byte_shown 121 ≡ book_shown c.before.before.before.before.before.args.rec
 unfolding book_shown
-yes c = first _ (accepted c.before.before) (first _ (sym c.before.by-the-book.ensures ∙ c.if2.true) refl)
+yes c = first _ (accepted c.before.before) (first _ (sym c.before.by_the_book.ensures ∙ c.if-by_the_book.true) refl)
 
-no : (c : tie.Else2) → byte_shown 110 ≡ book_shown c.before.before.before.before.before.args.rec
+no : (c : tie.Else-by_the_book) → byte_shown 110 ≡ book_shown c.before.before.before.before.before.args.rec
 unfolding book_shown
-no c = first _ (accepted c.before.before) (second _ (sym c.before.by-the-book.ensures ∙ c.if2.false) refl)
+no c = first _ (accepted c.before.before) (second _ (sym c.before.by_the_book.ensures ∙ c.if-by_the_book.false) refl)
 
 pub put_book_spec : {M : Type 1} → statement M
 put_book_spec =
@@ -30,6 +30,6 @@ put_book_spec =
     (search rules)
     (λ c. rw (← unread c) (wrote_nothing _ _ (omega arith) (omega arith)))
     (search rules) (search rules) (search rules)
-    (λ c. rw (← yes c.before.before.before.before) c.before.before.show-byte.ensures)
+    (λ c. rw (← yes c.before.before.before.before) c.before.before.show_byte.ensures)
     (search rules) (search rules)
-    (λ c. rw (← no c.before.before.before.before) c.before.before.show-byte2.ensures))
+    (λ c. rw (← no c.before.before.before.before) c.before.before.show_byte-2.ensures))

@@ -10,6 +10,6 @@ put_fields_spec =
     (tie.spec
     (search rules) (search rules) (search rules) (search rules)
     (search rules)
-    (λ c. rw c.before.before.before.before.before.reading.given.1 c.before.before.put-seen.ensures)
+    (λ c. rw c.before.before.before.before.in-Accepted.is c.before.before.put_seen.ensures)
     (search rules)
-    (λ c. rw c.before.before.before.before.before.reading2.given.1 c.before.before.put-place.ensures))
+    (λ c. rw c.before.before.before.before.in-Refused.is c.before.before.put_place.ensures))

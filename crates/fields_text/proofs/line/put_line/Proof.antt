@@ -10,7 +10,7 @@ returns c =
     let end = c.before.before in
     let fields = end.before.before.before.before in
     let head = fields.before.before.before.before in
-    then head.put-head.ensures (then fields.put-fields.ensures end.put_byte.ensures)
+    then head.put_head-at_fields.ensures (then fields.put_fields-at_end.ensures end.put_byte.ensures)
 
 pub put_line_spec : {M : Type 1} → statement M
 put_line_spec = tie.close (tie.spec (search rules) (search rules) (search rules) (search rules) returns)

@@ -11,8 +11,8 @@ returns c =
     let printed = c.before.before in
     let book = printed.before.before.before.before in
     let fields = book.before.before.before.before in
-    rw fields.before.before.table.ensures
-    at (then fields.show-record.ensures (then book.put-book.ensures printed.put-printed.ensures))
+    rw fields.before.before.table-table.ensures
+    at (then fields.show_record-at_book.ensures (then book.put_book-at_sign.ensures printed.put_printed.ensures))
 
 pub put_seen_spec : {M : Type 1} → statement M
 put_seen_spec = tie.close (tie.spec (search rules) (search rules) (search rules) (search rules) (search rules) returns)

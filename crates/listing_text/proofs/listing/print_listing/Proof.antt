@@ -5,12 +5,12 @@ use Rattle.listing_text.proofs.listing.print_listing.Statement.{statement}
 use Rattle.listing_text.proofs.listing.print_listing.Tie as tie
 
 -- where there is room for the listing of any log as long
-ample : tie.Need-returns
+ample : tie.Need-returns-then-has_room
 ample c =
     let put = c.before.before in
     let test = put.before.before in
-    let room = is≤ (sym test.before.has_room.ensures ∙ test.if1.true) in
-    let w = put.put-listing.ensures in
+    let room = is≤ (sym test.before.has_room.ensures ∙ test.if-has_room.true) in
+    let w = put.put_listing.ensures in
     written refl w (omega (
       arith,
       w.next,
@@ -19,14 +19,14 @@ ample c =
       room,
     )) w
 
-full : tie.Need-returns-2
-full c = no_room refl c.before.before.put-listing2.ensures c.if2.true
+full : tie.Need-returns-then-buf-put_listing
+full c = no_room refl c.before.before.put_listing-2.ensures c.if-buf-put_listing.true
 
-tried : tie.Need-returns-3
+tried : tie.Need-returns
 tried c =
     let put = c.before.before in
     let test = put.before.before in
-    written refl test.before.before.put-listing2.ensures test.if2.false put.put-listing3.ensures
+    written refl test.before.before.put_listing-2.ensures test.if-buf-put_listing.false put.put_listing-3.ensures
 
 pub print_listing_spec : {M : Type 1} → statement M
 print_listing_spec =

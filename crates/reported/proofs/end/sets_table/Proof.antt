@@ -10,6 +10,6 @@ sets_table_spec =
     tie.close
     (tie.spec
     (search rules)
-    (λ c. rw (sym c.before.begins.ensures ∙ c.if1.true))
+    (λ c. rw (sym c.before.begins.ensures ∙ c.if-begins.true))
     (search rules)
-    (λ c. rw (sym c.before.before.begins.ensures ∙ c.before.if1.false) c.begins2.ensures))
+    (λ c. rw (sym c.before.before.begins.ensures ∙ c.before.if-begins.false) c.begins-2.ensures))

@@ -10,5 +10,5 @@ slot_of_spec =
     (tie.spec
     (search rules)
     (search rules)
-    (λ c. rw c.enum_told.given.1)
-    (λ c. rw c.before.verdict.given.1))
+    (λ c. rw c.in-Accepted.is)
+    (λ c. rw c.in-Refused.is))

@@ -6,4 +6,4 @@ use Rattle.reported.proofs.end.walk_from.Tie as tie
 
 pub walk_from_spec : {M : Type 1} → statement M
 unfolding walk_from_of
-walk_from_spec = tie.close (tie.spec (search rules) (λ c. rw (report_is c.report.result c.report.ensures)))
+walk_from_spec = tie.close (tie.spec (search rules) (λ c. rw (report_is c.report-report.result c.report-report.ensures)))

@@ -11,4 +11,4 @@ later (suc n) t h = refl
 
 pub new_end_spec : {M : Type 1} → statement M
 unfolding new_end_of
-new_end_spec = tie.close (tie.spec (λ c. rw c.if1.true) (λ c. later _ _ c.if1.false))
+new_end_spec = tie.close (tie.spec (λ c. rw c.if-seen-eq0.true) (λ c. later _ _ c.if-seen-eq0.false))

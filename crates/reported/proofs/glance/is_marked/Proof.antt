@@ -10,5 +10,5 @@ is_marked_spec =
     (tie.spec
     (search rules)
     (search rules)
-    (λ c. rw c.enum_told.given.1)
-    (λ c. rw c.enum-told2.given.1))
+    (λ c. rw c.in-Valid.is)
+    (λ c. rw c.in-NavWarning.is))

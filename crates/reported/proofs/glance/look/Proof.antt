@@ -5,15 +5,15 @@ use Rattle.reported.proofs.Fixes.{b_line, other_line}
 use Rattle.reported.proofs.glance.look.Statement.{statement}
 use Rattle.reported.proofs.glance.look.Tie as tie
 
-b : tie.Need-returns
-b c = c.of-b.ensures ∙ ap glance_of (b_line _ (sym c.before.before.begins.ensures ∙ c.before.if1.true))
+b : tie.Need-returns-then-begins
+b c = c.of_b.ensures ∙ ap glance_of (b_line _ (sym c.before.before.begins.ensures ∙ c.before.if-begins.true))
 
-other : tie.Need-returns-2
+other : tie.Need-returns
 unfolding glance_of glance_at
 other c =
     let parse = c.before.before in
     let left = parse.before in
-    rw (other_line _ (sym left.before.begins.ensures ∙ left.if1.false), ← parse.parse-line.ensures)
+    rw (other_line _ (sym left.before.begins.ensures ∙ left.if-begins.false), ← parse.parse_line-reading.ensures)
     (c.of_other.ensures ∙ ap plain_glance (number_is _ c.before.number.ensures))
 
 pub look_spec : {M : Type 1} → statement M

@@ -6,25 +6,25 @@ use Rattle.reported.specs.Glance.{plain_glance, glance_at, glance_of}
 use Rattle.reported.proofs.glance.of_b.Statement.{statement}
 use Rattle.reported.proofs.glance.of_b.Tie as tie
 
-quick : tie.Need-returns
+quick : tie.Need-returns-in-Fix
 unfolding glance_of glance_at answered answer_fix accepted_as record_fix
 quick c =
-    let fix = c.before.before in
-    c.of-fix.ensures
-    ∙ ap glance_of (on _ (quick_is_read _ (sym fix.fix.given.1 ∙ fix.before.before.quick-fix.ensures)) refl)
+    let fix = c.before in
+    c.of_fix.ensures
+    ∙ ap glance_of (on _ (quick_is_read _ (sym fix.in-Fix.is ∙ fix.before.quick_fix.ensures)) refl)
 
-plain : tie.Need-returns-2
+plain : tie.Need-returns-in-Ok
 unfolding glance_of glance_at answered answer_fix accepted_as record_fix
 plain c =
-    let b = c.before.before in
-    c.of-fix2.ensures ∙ ap glance_of (on _ (came b_res b.b.given.1 b.before.before.parse.ensures) refl)
+    let b = c.before in
+    c.of_fix-in-Ok.ensures ∙ ap glance_of (on _ (came b_res b.in-Ok.is b.before.parse.ensures) refl)
 
-refused : tie.Need-returns-3
+refused : tie.Need-returns-in-Refused
 unfolding glance_of glance_at answered answer_fix
 refused c =
-    let no-b = c.before.before.before in
+    let no-b = c.before.before in
     c.of_other.ensures ∙ ap plain_glance c.before.number.ensures
-    ∙ ap glance_of (off _ (came b_res no-b.no-b.given.1 no-b.before.before.parse.ensures))
+    ∙ ap glance_of (off _ (came b_res no-b.in-Refused.is no-b.before.parse.ensures))
 
 pub of_b_spec : {M : Type 1} → statement M
 of_b_spec =

@@ -10,4 +10,4 @@ of_fix_spec =
     (tie.spec
     (search rules)
     (search rules)
-    (λ c. rw (c.before.seconds-since-midnight.ensures, c.is-marked.ensures)))
+    (λ c. rw (c.before.seconds_since_midnight-seconds.ensures, c.is_marked-marked.ensures)))

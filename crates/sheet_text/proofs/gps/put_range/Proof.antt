@@ -5,21 +5,20 @@ use Rattle.sheet_text.specs.Sheet.{none_line, range_lines}
 use Rattle.sheet_text.proofs.gps.put_range.Statement.{statement}
 use Rattle.sheet_text.proofs.gps.put_range.Tie as tie
 
-missing : tie.Need-returns
+missing : tie.Need-returns-in-Missing
 unfolding range_lines none_line spelt spelt_from
-missing c = let e : tie.After-enum-told = search rules in rw e.enum_told.given.1
-    c.before.before.put-bytes.ensures
+missing c = let e : tie.In-Missing = search rules in rw e.in-Missing.is
+    c.before.before.put_bytes.ensures
 
-there : tie.Need-returns-2
+there : tie.Need-returns-in-Between
 unfolding range_lines spelt spelt_from
-there c = let e : tie.After-range = search rules in rw e.range.given.1 (search (then))
+there c = let e : tie.In-Between = search rules in rw e.in-Between.is (search (then))
 
 pub put_range_spec : {M : Type 1} → statement M
 put_range_spec =
     tie.close
     (tie.spec
     (search rules) (search rules) (search rules) (search rules) (search rules) (search rules)
-    (search rules) (search rules) (search rules)
     missing
     (search rules)
     there)

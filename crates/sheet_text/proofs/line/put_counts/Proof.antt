@@ -10,5 +10,5 @@ unfolding count_lines spelt spelt_from
 put_counts_spec =
     tie.close
     (tie.spec
-    (search rules) (search rules) (search rules) (search rules) (search rules) (search rules)
+    (search rules) (search rules) (search rules) (search rules)
     (λ c. search (then)))

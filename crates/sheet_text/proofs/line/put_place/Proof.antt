@@ -9,5 +9,5 @@ unfolding at_place_of spelt spelt_from
 put_place_spec =
     tie.close
     (tie.spec
-    (search rules) (search rules) (search rules)
-    (λ c. c.before.before.put-number.ensures))
+    (search rules) (search rules)
+    (λ c. c.before.before.put_number.ensures))

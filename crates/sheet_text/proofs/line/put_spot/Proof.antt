@@ -10,5 +10,5 @@ unfolding at_spot spelt spelt_from
 put_spot_spec =
     tie.close
     (tie.spec
-    (search rules) (search rules) (search rules) (search rules) (search rules) (search rules)
+    (search rules) (search rules) (search rules) (search rules)
     (λ c. search (then)))

@@ -16,17 +16,6 @@ loop-holds : tie.Need-loop-i-init invariant-loop decreases-loop
 unfolding table_of
 loop-holds c = rw c.new-none.ensures (turn_start _ _)
 
-bad : tie.Need-returns-in-Refused invariant-loop decreases-loop
-unfolding table_read
-bad c =
-    let b : tie.In-Refused invariant-loop decreases-loop = search rules in
-    let p : tie.After-parse invariant-loop decreases-loop = search rules in
-    let m : tie.After-moved invariant-loop decreases-loop = search rules in
-    let l = c.before.before.before.before.before.loop-i in
-    rw c.before.before.before.before.before.before.new-none.ensures
-    (ap table_read (turn_refuses _ _ l.i _ l.invariant (search rules)
-    (came extension_res b.in-Refused.is p.parse.ensures) m.moved.ensures))
-
 loop-again : tie.Need-loop-i-preserved invariant-loop decreases-loop
 loop-again c =
     let l = c.before.before.before.before.loop-i in
@@ -37,6 +26,7 @@ ends : tie.Need-returns invariant-loop decreases-loop
 ends c = turn_done _ _ _ _ c.before.loop-i.invariant (search rules)
 
 pub parse_defs_spec : {M : Type 1} → statement M
+unfolding table_read
 parse_defs_spec =
     tie.close
     (tie.spec
@@ -47,7 +37,14 @@ parse_defs_spec =
     (search rules) (search rules) (search rules) (search rules)
     (λ c. omega (arith, c.before.loop-i.invariant.inside))
     (search rules) (search rules) (search rules) (search rules) (search rules) (search rules) (search rules)
-    bad
+    (λ c.
+    let b : tie.In-Refused invariant-loop decreases-loop = search rules in
+    let p : tie.After-parse invariant-loop decreases-loop = search rules in
+    let m : tie.After-moved invariant-loop decreases-loop = search rules in
+    let l = c.before.before.before.before.before.loop-i in
+    rw c.before.before.before.before.before.before.new-none.ensures
+    (ap table_read (turn_refuses _ _ l.i _ l.invariant (search rules)
+    (came extension_res b.in-Refused.is p.parse.ensures) m.moved.ensures)))
     (search rules) (search rules)
     loop-again
     ends)

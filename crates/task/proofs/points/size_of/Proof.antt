@@ -29,23 +29,23 @@ unfolding size_of
 not_below (pos n) f t = record { natural = tt; small = f.sfits; points = refl }
 not_below (negsuc k) f t = absurd (subst T t tt)
 
-at_else : (c : tie.Else1) → NotBelow c.before.args.count
+at_else : (c : tie.Else-count-lt0) → NotBelow c.before.args.count
 at_else c =
     not_below c.before.args.count c.before.ranges.count
-    (rw (to_z-of_z c.before.ranges.count) at c.if1.false)
+    (rw (to_z-of_z c.before.ranges.count) at c.if-count-lt0.false)
 
-returns : tie.Need-returns
-returns c = below _ (rw (to_z-of_z c.before.ranges.count) at c.if1.true)
+returns : tie.Need-returns-then-count-lt0
+returns c = below _ (rw (to_z-of_z c.before.ranges.count) at c.if-count-lt0.true)
 
-cast : tie.Need-overflow-cast-t3
+cast : tie.Need-overflow_cast-result
 cast c =
     let n = at_else c in
     rw (to_z-of_z c.before.ranges.count) (n.natural, record { fits = omega (arith, n.small) })
 
-add : tie.Need-overflow-add-t4
+add : tie.Need-overflow_add-result
 add c = let n = at_else c in rw (to_z-of_z c.before.ranges.count) (record { fits = omega (arith, n.small) })
 
-returns-2 : tie.Need-returns-2
+returns-2 : tie.Need-returns
 returns-2 c = rw (to_z-of_z c.before.ranges.count) (at_else c).points
 
 pub size_of_spec : {M : Type 1} → statement M

@@ -11,7 +11,7 @@ add_spec =
     (search rules)
     (search rules)
     (search rules)
-    (λ c. let join = c.before.before.before in
-    log_added _ _ (rw (c.enum_told.given.1, join.before.of-log.ensures) at join.join.ensures))
-    (λ c. let join = c.before.before.before in
-    log_stays _ _ (rw (c.enum-told2.given.1, join.before.of-log.ensures) at join.join.ensures)))
+    (λ c. let join = c.before.before in
+    log_added _ _ (rw (c.in-Fits.is, join.before.of_log.ensures) at join.join-joined.ensures))
+    (λ c. let join = c.before.before in
+    log_stays _ _ (rw (c.in-TooLarge.is, join.before.of_log.ensures) at join.join-joined.ensures)))

@@ -7,4 +7,4 @@ pub of_log_spec : {M : Type 1} → statement M
 unfolding one_log in_log_of
 of_log_spec =
     tie.close
-    (tie.spec (search rules) (search rules) (λ c. rw (c.before.in-log.ensures, c.in-log2.ensures)))
+    (tie.spec (search rules) (search rules) (λ c. rw (c.before.in_log.ensures, c.in_log-2.ensures)))

@@ -5,8 +5,8 @@ use Rattle.records.proofs.Answers.{number_is}
 use Rattle.trailer_text.proofs.Offset.after.Statement.{statement}
 use Rattle.trailer_text.proofs.Offset.after.Tie as tie
 
-i_line : (c : tie.Then1) → begins 73 (c.before.before.before.args.line.now) ≡ true
-i_line c = sym c.before.begins.ensures ∙ c.if1.true
+i_line : (c : tie.Then-begins) → begins 73 (c.before.before.before.args.line.now) ≡ true
+i_line c = sym c.before.begins.ensures ∙ c.if-begins.true
 
 pub after_spec : {M : Type 1} → statement M
 unfolding force_after
@@ -15,7 +15,7 @@ after_spec =
     (tie.spec
     (search rules) (search rules)
     (λ c. first _ (i_line c.before.before)
-    (first _ (yes= (sym (number_is _ c.before.number.ensures) ∙ c.if2.true)) refl))
+    (first _ (yes= (sym (number_is _ c.before.number.ensures) ∙ c.if-number-eq0.true)) refl))
     (λ c. first _ (i_line c.before.before)
-    (second _ (no= (λ e. c.if2.false (number_is _ c.before.number.ensures ∙ e))) refl))
-    (λ c. second _ (sym c.before.begins.ensures ∙ c.if1.false) refl))
+    (second _ (no= (λ e. c.if-number-eq0.false (number_is _ c.before.number.ensures ∙ e))) refl))
+    (λ c. second _ (sym c.before.begins.ensures ∙ c.if-begins.false) refl))

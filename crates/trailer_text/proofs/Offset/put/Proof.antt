@@ -10,6 +10,6 @@ put_spec =
     tie.close
     (tie.spec
     (search rules) (search rules) (search rules) (search rules) (search rules)
-    (λ c. rw c.before.before.before.before.enum_told.given.1 c.before.before.put_byte.ensures)
+    (λ c. rw c.before.before.before.before.in-Missing.is c.before.before.put_byte.ensures)
     (search rules)
-    (λ c. rw c.before.before.before.before.before.self.given.1 c.before.before.put-nat.ensures))
+    (λ c. rw c.before.before.before.before.in-At.is c.before.before.put_nat.ensures))

@@ -12,9 +12,9 @@ returns c =
     let space = offset.before.before.before.before in
     let counts = space.before.before.before.before in
     let letter = counts.before.before.before.before in
-    then letter.put_byte.ensures
-    (then counts.put-counts.ensures
-    (then space.put-byte2.ensures (then offset.put.ensures lf.put-byte3.ensures)))
+    then letter.put_byte-at_counts.ensures
+    (then counts.put_counts-at_space.ensures
+    (then space.put_byte-at_offset.ensures (then offset.put-at_end.ensures lf.put_byte.ensures)))
 
 pub put_spec : {M : Type 1} → statement M
 put_spec = tie.close (tie.spec (search rules) (search rules) (search rules) (search rules) (search rules) (search rules)

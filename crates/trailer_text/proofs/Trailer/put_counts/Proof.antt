@@ -12,8 +12,8 @@ returns c =
     let second = refused.before.before.before.before in
     let lines = second.before.before.before.before in
     let first = lines.before.before.before.before in
-    then first.put_byte.ensures
-    (then lines.put-nat.ensures (then second.put-byte2.ensures refused.put-nat2.ensures))
+    then first.put_byte-at_lines.ensures
+    (then lines.put_nat-at_space.ensures (then second.put_byte-at_refused.ensures refused.put_nat.ensures))
 
 pub put_counts_spec : {M : Type 1} → statement M
 put_counts_spec =

@@ -8,8 +8,8 @@ returns c =
     let pressure = c.before in
     let after = pressure.before.before.before in
     past_line_lem _ _ _
-    (held_after _ _ _ after.after.result after.after.ensures after.before.parse-line.ensures
-    pressure.between.ensures c.between2.ensures)
+    (held_after _ _ _ after.after-report.result after.after-report.ensures after.before.parse_line-reading.ensures
+    pressure.between.ensures c.between-2.ensures)
 
 pub after_spec : {M : Type 1} → statement M
 after_spec =

@@ -6,4 +6,4 @@ use Rattle.watch_text.proofs.Watch.new.Tie as tie
 
 pub new_spec : {M : Type 1} → statement M
 unfolding nothing_raised start
-new_spec = tie.close (tie.spec (search rules) (search rules) (λ c. rw (c.before.new.ensures, c.new2.ensures)))
+new_spec = tie.close (tie.spec (search rules) (search rules) (λ c. rw (c.before.new-report.ensures, c.new-at.ensures)))

@@ -14,6 +14,6 @@ has_room_spec =
     (λ c. sym (fails _ (no≤ (omega arith))))
     (λ c. sym (holds (yes≤ (omega arith)) (fails _ (no≤ (omega arith)))))
     (λ c. sym (holds (yes≤ (omega arith)) (holds (yes≤ (omega arith))
-    (rw c.before.if3.true (sym (less_tested _ _))))))
+    (rw c.before.if-seen.true (sym (less_tested _ _))))))
     (λ c. sym (and (yes≤ (omega arith)) (and (yes≤ (omega arith))
-    (rw (c.if3.false, add-zero) (yes≤ (search rules)))))))
+    (rw (c.if-seen.false, add-zero) (yes≤ (search rules)))))))

@@ -9,6 +9,6 @@ unfolding full_by ◌∨?◌ pick
 is_full_spec =
     tie.close
     (tie.spec
-    (λ c. rw (yes≤ c.if1.true))
-    (λ c. rw (no≤ c.before.before.if1.false, yes≤ c.if2.true))
-    (λ c. rw (no≤ c.before.before.if1.false, no≤ c.if2.false) (sym (tested _ _))))
+    (λ c. rw (yes≤ c.if-self-ge18446744073709551615.true))
+    (λ c. rw (no≤ c.before.before.if-self-ge18446744073709551615.false, yes≤ c.if-self-ge18446744073709551615-2.true))
+    (λ c. rw (no≤ c.before.before.if-self-ge18446744073709551615.false, no≤ c.if-self-ge18446744073709551615-2.false) (sym (tested _ _))))

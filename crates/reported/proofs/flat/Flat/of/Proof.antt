@@ -6,4 +6,4 @@ pub of_spec : {M : Type 1} → statement M
 of_spec =
     tie.close
     (tie.spec (search rules) (search rules) (search rules)
-    (λ c. rw (c.before.before.of.ensures, c.before.of2.ensures, c.of3.ensures)))
+    (λ c. rw (c.before.before.of.ensures, c.before.of-2.ensures, c.of-3.ensures)))

@@ -6,4 +6,4 @@ pub report_spec : {M : Type 1} → statement M
 report_spec =
     tie.close
     (tie.spec (search rules) (search rules) (search rules)
-    (λ c. rw (c.before.before.range.ensures, c.before.range2.ensures, c.range3.ensures)))
+    (λ c. rw (c.before.before.range.ensures, c.before.range-2.ensures, c.range-3.ensures)))

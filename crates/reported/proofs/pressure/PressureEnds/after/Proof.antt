@@ -16,7 +16,7 @@ low c = search rules
 height : (c : tie.Start) → SFits w16 c.args.height.0
 height c = search rules
 
-one_more : tie.Need-returns-2
+one_more : tie.Need-returns
 unfolding with_pressure one_seen ranged
 one_more c =
     let heights = c.before in
@@ -25,19 +25,19 @@ one_more c =
     let highest = lowest.before.before.before.before.before.before in
     let test = highest.before.before.before.before.before.before.before.before in
     let start = test.before in
-    first _ (so_true refl test.if1.false)
+    first _ (so_true refl test.if-not-counts.false)
     (pressure_seen _ _ _
-    (rw (to_z-of_z (high start), to_z-of_z (height start)) at highest.new-end.ensures)
-    (rw (to_z-of_z (height start), to_z-of_z (low start)) at lowest.new-end2.ensures)
-    places.before.place_of.ensures places.place-of2.ensures
-    heights.height-of.ensures c.height-of2.ensures)
+    (rw (to_z-of_z (high start), to_z-of_z (height start)) at highest.new_end-highest.ensures)
+    (rw (to_z-of_z (height start), to_z-of_z (low start)) at lowest.new_end-lowest.ensures)
+    places.before.place_of.ensures places.place_of-2.ensures
+    heights.height_of.ensures c.height_of-2.ensures)
 
 pub after_spec : {M : Type 1} → statement M
 unfolding with_pressure one_seen
 after_spec =
     tie.close
     (tie.spec
-    (λ c. second _ (so_false refl c.if1.true) refl)
+    (λ c. second _ (so_false refl c.if-not-counts.true) refl)
     (search rules) (search rules) (search rules) (search rules) (search rules) (search rules) (search rules)
     (search rules)
     one_more)

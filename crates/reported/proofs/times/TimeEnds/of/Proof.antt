@@ -10,5 +10,5 @@ of_spec =
     (tie.spec
     (search rules)
     (search rules)
-    (λ c. rw c.enum_told.given.1)
-    (λ c. rw c.before.range.given.1))
+    (λ c. rw c.in-Missing.is)
+    (λ c. rw c.in-Between.is))

@@ -5,4 +5,4 @@ use Rattle.reported.proofs.times.TimeEnds.range.Tie as tie
 
 pub range_spec : {M : Type 1} → statement M
 unfolding ranged
-range_spec = tie.close (tie.spec (λ c. rw c.if1.true) (λ c. ranged_some _ _ _ c.if1.false))
+range_spec = tie.close (tie.spec (λ c. rw c.if-self-eq0.true) (λ c. ranged_some _ _ _ c.if-self-eq0.false))
