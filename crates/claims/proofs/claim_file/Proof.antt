@@ -7,10 +7,10 @@ use Rattle.claims.proofs.claim_file.Statement.{statement}
 use Rattle.claims.proofs.claim_file.Tie as tie
 
 abbrev invariant-loop : tie.invariant-loop
-invariant-loop fd win₀ sofar₀ fill₀ turns₀ win sofar fill turns = Going sofar × (length win ≡ length win₀)
+invariant-loop sys fd win₀ sofar₀ fill₀ turns₀ win sofar fill turns = Going sofar × (length win ≡ length win₀)
 
 abbrev decreases-loop : tie.decreases-loop
-decreases-loop fd win₀ sofar₀ fill₀ turns₀ win sofar fill turns = largest - turns
+decreases-loop sys fd win₀ sofar₀ fill₀ turns₀ win sofar fill turns = largest - turns
 
 -- the window stays as long as it was
 abbrev window : tie.Start invariant-loop decreases-loop → List ℕ

@@ -7,10 +7,10 @@ use Rattle.sheet_file.proofs.read_file.Statement.{statement}
 use Rattle.sheet_file.proofs.read_file.Tie as tie
 
 abbrev invariant-loop : tie.invariant-loop
-invariant-loop fd win₀ before₀ fill₀ turns₀ win before fill turns = Gone before × (length win ≡ length win₀)
+invariant-loop sys fd win₀ before₀ fill₀ turns₀ win before fill turns = Gone before × (length win ≡ length win₀)
 
 abbrev decreases-loop : tie.decreases-loop
-decreases-loop fd win₀ before₀ fill₀ turns₀ win before fill turns = largest - turns
+decreases-loop sys fd win₀ before₀ fill₀ turns₀ win before fill turns = largest - turns
 
 -- one turn more
 turned : (c : tie.After-one-turn invariant-loop decreases-loop) → Goes (turn_in c.one-turn.result)

@@ -8,11 +8,11 @@ use Rattle.sheets.proofs.report_file.Statement.{statement}
 use Rattle.sheets.proofs.report_file.Tie as tie
 
 abbrev invariant-loop : tie.invariant-loop
-invariant-loop fd win₀ sofar₀ fill₀ turns₀ win sofar fill turns =
+invariant-loop sys fd win₀ sofar₀ fill₀ turns₀ win sofar fill turns =
     Goes nothing_yet (so_far_in sofar) true × (length win ≡ length win₀)
 
 abbrev decreases-loop : tie.decreases-loop
-decreases-loop fd win₀ sofar₀ fill₀ turns₀ win sofar fill turns = largest - turns
+decreases-loop sys fd win₀ sofar₀ fill₀ turns₀ win sofar fill turns = largest - turns
 
 -- one turn more
 turned : (c : tie.After-one-turn invariant-loop decreases-loop) →

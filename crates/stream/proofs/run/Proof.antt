@@ -8,11 +8,11 @@ use Rattle.stream.proofs.run.Statement.{statement}
 use Rattle.stream.proofs.run.Tie as tie
 
 abbrev invariant-loop : tie.invariant-loop
-invariant-loop product from win₀ names to out₀ carried₀ fill₀ turns₀ win out carried fill turns =
+invariant-loop sys product from win₀ names to out₀ carried₀ fill₀ turns₀ win out carried fill turns =
     Goes at_first_of carried true × (length win ≡ length win₀) × (length out ≡ length out₀)
 
 abbrev decreases-loop : tie.decreases-loop
-decreases-loop product from win₀ names to out₀ carried₀ fill₀ turns₀ win out carried fill turns = largest - turns
+decreases-loop sys product from win₀ names to out₀ carried₀ fill₀ turns₀ win out carried fill turns = largest - turns
 
 -- one turn more
 turned : (c : tie.After-one-turn invariant-loop decreases-loop) →

@@ -7,11 +7,11 @@ use Rattle.stream.proofs.write_lines.Statement.{statement}
 use Rattle.stream.proofs.write_lines.Tie as tie
 
 abbrev invariant-loop : tie.invariant-loop
-invariant-loop product lines names to out₀ carried₀ from₀ out carried from =
+invariant-loop sys product lines names to out₀ carried₀ from₀ out carried from =
     Streaming carried₀ lines from carried × (length out ≡ length out₀) × (length lines ≤ largest)
 
 abbrev decreases-loop : tie.decreases-loop
-decreases-loop product lines names to out₀ carried₀ from₀ out carried from = length lines - from
+decreases-loop sys product lines names to out₀ carried₀ from₀ out carried from = length lines - from
 
 -- the lines that were put
 more : (c : tie.After-put-lines invariant-loop decreases-loop) →

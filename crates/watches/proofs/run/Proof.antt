@@ -8,11 +8,11 @@ use Rattle.watches.proofs.run.Statement.{statement}
 use Rattle.watches.proofs.run.Tie as tie
 
 abbrev invariant-loop : tie.invariant-loop
-invariant-loop from win₀ to out₀ watch₀ fill₀ turns₀ win out watch fill turns =
+invariant-loop sys from win₀ to out₀ watch₀ fill₀ turns₀ win out watch fill turns =
     Goes at_first_of (view watch) true × (length win ≡ length win₀) × (length out ≡ length out₀)
 
 abbrev decreases-loop : tie.decreases-loop
-decreases-loop from win₀ to out₀ watch₀ fill₀ turns₀ win out watch fill turns = largest - turns
+decreases-loop sys from win₀ to out₀ watch₀ fill₀ turns₀ win out watch fill turns = largest - turns
 
 -- one turn more
 turned : (c : tie.After-one-turn invariant-loop decreases-loop) →

@@ -7,11 +7,11 @@ use Rattle.watches.proofs.write_lines.Statement.{statement}
 use Rattle.watches.proofs.write_lines.Tie as tie
 
 abbrev invariant-loop : tie.invariant-loop
-invariant-loop lines to out₀ watch₀ from₀ out watch from =
+invariant-loop sys lines to out₀ watch₀ from₀ out watch from =
     Writing watch₀ lines from watch × (length out ≡ length out₀) × (length lines ≤ largest)
 
 abbrev decreases-loop : tie.decreases-loop
-decreases-loop lines to out₀ watch₀ from₀ out watch from = length lines - from
+decreases-loop sys lines to out₀ watch₀ from₀ out watch from = length lines - from
 
 -- the lines that were put
 more : (c : tie.After-put-lines invariant-loop decreases-loop) →
