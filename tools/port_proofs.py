@@ -41,6 +41,13 @@ class Names:
         for p, (parent, old, new) in self.at.items():
             self.steps.setdefault(old, set()).add(new)
         self.place_of_need = dict(zip(self.order, self.asked))
+        # port.py had turned some names already.
+        for old, new in entry["needs"]:
+            self.needs.setdefault(plain(new), new)
+            self.place_of_need.setdefault(plain(new), self.place_of_need[plain(old)])
+        self.index = {plain(a): i for i, (a, b) in enumerate(entry["needs"])}
+        for i, (a, b) in enumerate(entry["needs"]):
+            self.index.setdefault(plain(b), i)
 
     def ups(self, place):
         """The place and those before it, nearest first."""
@@ -151,8 +158,8 @@ def turn(text, n):
                 key = plain(need.group(1))
                 key = re.sub(r"^overflow_", "", key) if key not in n.place_of_need else key
                 kinds = [n.place_of_need.get(key)]
-                if key in n.order:
-                    typed[name] = n.order.index(key)
+                if key in n.index:
+                    typed[name] = n.index[key]
             else:
                 for binder in re.finditer(r"\((" + IDENT + r"(?: " + IDENT + r")*) : tie\.(" + IDENT + r")", ty):
                     for v in binder.group(1).split():
