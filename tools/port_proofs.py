@@ -1,10 +1,11 @@
 #!/usr/bin/env python3
 """Turns what a Proof.antt of an older Rattle names to what today's Rattle makes, by the list that the check prints.
 
-usage: tools/port_proofs.py CRATE..     in the repository, where the crates below are proved
+usage: tools/port_proofs.py [--flat] CRATE..     in the repository, where the crates below are proved
 
 `rt check --generated DIR --old-names` lists for each function its places, their steps and its goals by the old name and
 the new. A path `c.before.if1.true` is walked from the place of its `c`, so that a step gets the name of its place.
+With --flat a step is named from where it is used, whatever stands between.
 Run it once a crate, before any edit of its proofs by hand.
 """
 import json
@@ -14,6 +15,7 @@ import subprocess
 import sys
 import tempfile
 
+FLAT = "--flat" in sys.argv
 IDENT = r"[^\s(){}\[\];,.\"λ@«»]+"
 PATH = IDENT + r"(?:\." + IDENT + r")*"
 
@@ -36,6 +38,7 @@ class Names:
         self.asked = [plain(a) for a, b in entry["asked_at"]]
         self.args = [tuple(x.replace(" .", ".") for x in pair) for pair in entry["args"]]
         self.loops = {plain(l[0][0]): l[0][1] for l in entry["loops"]}
+        self.callee = {plain(p[0]): entry["params"].get(p[3], []) for p in self.places}
         self.arms = {plain(p[0]): a for p, a in zip(self.places, entry["arms"]) if a}
         self.steps = {}
         for p, (parent, old, new) in self.at.items():
@@ -107,8 +110,21 @@ class Names:
                 k, new, sub = max(hits)
                 return out + [arm[0], new] + rest[1 + k:]
         if plain(rest[0]) == self.at[target][1] and self.at[target][1]:
-            return out + [self.at[target][2]] + rest[1:]
+            return out + [self.at[target][2]] + self.lent(target, rest[1:])
         return out + self.any_step(rest, True)
+
+    def lent(self, place, parts):
+        """What a call left in what was lent to it, by the parameter's name and no more by its number."""
+        names = self.callee.get(place, [])
+        if parts[:1] in (["new"], ["auto"]):
+            k = 0
+            while 1 + k < len(parts) and parts[1 + k] == "1":
+                k += 1
+            if 1 + k < len(parts) and parts[1 + k] == "0":
+                at = k + (names[:1] == ["sys"])
+                if at < len(names):
+                    return [parts[0], names[at]] + parts[2 + k:]
+        return parts
 
     def as_step(self, rest):
         """The path with its first name as a step, where a name of the repository's own had been taken for it."""
@@ -199,18 +215,56 @@ def turn(text, n):
 
 
 def aliases(b, n, env):
-    """The places of what `let n = c.before.before in` names."""
+    """The places of what `let n = c.before.before in` names, and the variable that each goes back to."""
+    base = {}
     for m in re.finditer(r"(?:let )?(" + IDENT + r") = (" + IDENT + r")((?:\.before)*)\s+in\b", b):
         place = env.get(m.group(2))
         if place in n.at:
             chain = n.ups(place)
             k = m.group(3).count("before")
-            if k < len(chain):
-                env[m.group(1)] = chain[k]
+            env[m.group(1)] = chain[min(k, len(chain) - 1)]
+            base[m.group(1)] = base.get(m.group(2), m.group(2))
+    return base
+
+
+def near(n, place, root, step):
+    """The nearest place with that step, from the place back, and else from where its variable stands."""
+    for chain in (n.ups(place), n.ups(root)):
+        for q in chain:
+            if n.at[q][1] == step and step:
+                return q
+    return None
+
+
+def flat(parts, n, env, base):
+    """A path with the step alone: what a place has of the places before it, it has by the step's name."""
+    root = base.get(parts[0], parts[0])
+    b = 1
+    while b < len(parts) and parts[b] == "before":
+        b += 1
+    rest = n.as_step(parts[b:])
+    place = env.get(parts[0])
+    if not rest or place not in n.at:
+        return None
+    chain = n.ups(place)
+    at = chain[min(b - 1, len(chain) - 1)]
+    if rest[0] in ("args", "requires", "ranges", "fits", "lifetimes"):
+        return [root, {"fits": "ranges"}.get(rest[0], rest[0])] + rest[1:]
+    q = near(n, at, env[root], plain(rest[0]))
+    if not q:
+        return None
+    for p in n.ups(n.whole(q)):
+        arm = n.arms.get(p)
+        if arm and q in n.ups(p)[:arm[1]]:
+            hits = [(len(sub), new) for new, old, sub in arm[2] if plain(old) == plain(rest[0]) and rest[1:1 + len(sub)] == sub]
+            if hits:
+                k, new = max(hits)
+                return [root, arm[0], new] + rest[1 + k:]
+    return [root, n.at[q][2]] + n.lent(q, rest[1:])
 
 
 def paths(b, n, env):
-    aliases(b, n, env)
+    base = aliases(b, n, env)
 
     def one(m):
         t = m.group(0)
@@ -220,9 +274,18 @@ def paths(b, n, env):
         place = env.get(parts[0])
         if place and place not in n.at:
             place = None
+        if FLAT and place:
+            got = flat(parts, n, env, base)
+            if got:
+                return ".".join([got[0]] + today(got[1:]))
         return ".".join([parts[0]] + today(n.walk(place, parts[1:])))
 
-    return re.sub(r"--[^\n]*|" + PATH, lambda m: m.group(0) if m.group(0).startswith("--") else one(m), b)
+    text = re.sub(r"--[^\n]*|" + PATH, lambda m: m.group(0) if m.group(0).startswith("--") else one(m), b)
+    if FLAT:
+        for x in reversed(list(base)):
+            if len(re.findall(r"(?<![\w.'-])" + re.escape(x) + r"(?![\w'-])", text)) == 1:
+                text = re.sub(r"let " + re.escape(x) + r" = " + IDENT + r"(?:\.before)* in\s*", "", text)
+    return text
 
 
 def today(parts):
@@ -337,7 +400,7 @@ def automatic(crate):
 
 
 def main():
-    for crate in sys.argv[1:]:
+    for crate in [c for c in sys.argv[1:] if c != "--flat"]:
         automatic(crate)
         with tempfile.TemporaryDirectory() as d:
             subprocess.run(["rt", "check", "--generated", d, "--old-names"], cwd="crates/" + crate, capture_output=True)

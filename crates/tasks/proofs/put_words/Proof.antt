@@ -11,15 +11,10 @@ put_words_spec =
     (tie.spec
     (search rules) (search rules) (search rules) (search rules) (search rules) (search rules)
     (search rules) (search rules) (search rules) (search rules) (search rules) (search rules)
-    (search rules)
     (λ c. let put = c.before.before in
-    rw put.before.before.before.enum_told.given.1 put.put-bytes.ensures)
-    (search rules)
+    rw put.before.before.before.enum_told-1.given.1 put.put_bytes.ensures)
     (λ c. let put = c.before.before in
-    rw put.before.before.before.enum-told2.given.1 put.put-bytes2.ensures)
-    (search rules)
+    rw put.before.before.before.enum_told-in-NegativeCount-1.given.1 put.put_bytes-in-NegativeCount.ensures)
     (λ c. let put = c.before.before in
-    rw put.before.before.before.enum-told3.given.1 put.put-bytes3.ensures)
-    (search rules)
-    (λ c. let put = c.before.before in
-    rw put.before.before.before.enum-told4.given.1 put.put-bytes4.ensures))
+    rw put.before.before.before.enum_told-in-Interrupted-1.given.1 put.put_bytes-in-Interrupted.ensures)
+    (λ c. rw c.in-NoRoom.is c.put_bytes-in-NoRoom.ensures))
