@@ -55,10 +55,10 @@ pass_spec =
     tie.close
     (tie.spec
     (search rules) (search rules) (search rules)
-    (λ c. let h = inside c.before in search rules)
+    (λ c. let h = inside (search rules) in search rules)
     (search rules) (search rules) (search rules) (search rules) (search rules)
     too_long
     (search rules) (search rules)
-    (λ c. let h = gone c.before.before in search rules)
+    (λ c. let h = gone (search rules) in search rules)
     (search rules) (search rules) (search rules) (search rules) (search rules)
     kept)

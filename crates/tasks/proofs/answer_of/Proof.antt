@@ -20,13 +20,13 @@ labels_read c = sym c.in-Bytes-length_read.is ∙ c.length_read-2.ensures
 log_inside : tie.Need-slice_bounds-print_task-end
 log_inside c =
     let start : tie.Start = search rules in
-    let h = whole_inside _ _ (log_read (search rules)) start.pre.0 in
+    let h = whole_inside _ _ (log_read (search rules)) start.requires.0 in
     omega arith
 
 labels_inside : tie.Need-slice_bounds-print_task-end-2
 labels_inside c =
     let start : tie.Start = search rules in
-    let h = whole_inside _ _ (labels_read (search rules)) start.pre.1 in
+    let h = whole_inside _ _ (labels_read (search rules)) start.requires.1 in
     omega arith
 
 no_log : tie.Need-returns-in_default
