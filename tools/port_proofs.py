@@ -36,11 +36,19 @@ class Names:
         self.asked = [plain(a) for a, b in entry["asked_at"]]
         self.args = [tuple(x.replace(" .", ".") for x in pair) for pair in entry["args"]]
         self.loops = {plain(l[0][0]): l[0][1] for l in entry["loops"]}
+        self.callee = {plain(p[0]): entry["params"].get(p[3], []) for p in self.places}
         self.arms = {plain(p[0]): a for p, a in zip(self.places, entry["arms"]) if a}
         self.steps = {}
         for p, (parent, old, new) in self.at.items():
             self.steps.setdefault(old, set()).add(new)
         self.place_of_need = dict(zip(self.order, self.asked))
+        # port.py had turned some names already.
+        for old, new in entry["needs"]:
+            self.needs.setdefault(plain(new), new)
+            self.place_of_need.setdefault(plain(new), self.place_of_need[plain(old)])
+        self.index = {plain(a): i for i, (a, b) in enumerate(entry["needs"])}
+        for i, (a, b) in enumerate(entry["needs"]):
+            self.index.setdefault(plain(b), i)
 
     def ups(self, place):
         """The place and those before it, nearest first."""
@@ -100,8 +108,17 @@ class Names:
                 k, new, sub = max(hits)
                 return out + [arm[0], new] + rest[1 + k:]
         if plain(rest[0]) == self.at[target][1] and self.at[target][1]:
-            return out + [self.at[target][2]] + rest[1:]
+            return out + [self.at[target][2]] + self.lent(target, rest[1:])
         return out + self.any_step(rest, True)
+
+    def lent(self, place, parts):
+        """What a call left in what was lent to it, by the parameter's name and no more by its number."""
+        names = self.callee.get(place, [])
+        if len(parts) > 1 and parts[0] == "new" and parts[1].isdigit():
+            k = int(parts[1]) + (names[:1] == ["sys"])
+            if k < len(names):
+                return ["new", names[k]] + parts[2:]
+        return parts
 
     def as_step(self, rest):
         """The path with its first name as a step, where a name of the repository's own had been taken for it."""
@@ -151,8 +168,8 @@ def turn(text, n):
                 key = plain(need.group(1))
                 key = re.sub(r"^overflow_", "", key) if key not in n.place_of_need else key
                 kinds = [n.place_of_need.get(key)]
-                if key in n.order:
-                    typed[name] = n.order.index(key)
+                if key in n.index:
+                    typed[name] = n.index[key]
             else:
                 for binder in re.finditer(r"\((" + IDENT + r"(?: " + IDENT + r")*) : tie\.(" + IDENT + r")", ty):
                     for v in binder.group(1).split():
