@@ -251,6 +251,7 @@ def preludes(text):
     else:
         text = re.sub(r"denote\.Ref\.\{now\}", "denote.Bor.{now}", text)
     text = imports_without(text, "RefT")
+    text = re.sub(r"\.ptr(?![\w'-])", ".ref_ptr", text)
     return re.sub(r"(?<![\w.'-])needs(?![\w'-])", "rules", text)
 
 

@@ -1,5 +1,7 @@
 // What bench/ times: whole logs through the public reader. Each answer is a figure over all that a fresh walk reads, so
 // that no reading can be left out.
+#![tactic(auto)]
+
 pub mod moments;
 
 ghost use Rattle.std.specs.Prelude.{◌≡◌};
@@ -53,8 +55,7 @@ fn of_reading(reading: Reading) -> u64
 }
 
 // Lines cut and read, the table left alone.
-#[unsafe(no_mangle)]
-pub extern "C" fn timed_read(log: &[u8]) -> u64
+pub fn timed_read(log: &[u8]) -> u64
     ensures { result ≡ read_sum log.now }
 {
     let mut sum: u64 = 0;
@@ -69,8 +70,7 @@ pub extern "C" fn timed_read(log: &[u8]) -> u64
 }
 
 // The same by steps of a walk, which carries the table along.
-#[unsafe(no_mangle)]
-pub extern "C" fn timed_step(log: &[u8]) -> u64
+pub fn timed_step(log: &[u8]) -> u64
     ensures { result ≡ read_sum log.now }
 {
     let mut walk = Walk::new();
@@ -123,8 +123,7 @@ fn of_times(range: TimeRange) -> u64
 }
 
 // A walk to its end, which keeps tables and report: the report's figures.
-#[unsafe(no_mangle)]
-pub extern "C" fn timed_walk(log: &[u8]) -> u64
+pub fn timed_walk(log: &[u8]) -> u64
     ensures { result ≡ report_sum log.now }
 {
     let walk = walk_to_end(Walk::new(), log);
@@ -156,8 +155,7 @@ fn of_named(name: Mnemonic, held: Held, fix: MaybeFix, line: &[u8]) -> u64
 }
 
 // Lines cut and read, and on each fix the value of a name, by the table in force.
-#[unsafe(no_mangle)]
-pub extern "C" fn timed_lookup(log: &[u8], a: u8, b: u8, c: u8) -> u64
+pub fn timed_lookup(log: &[u8], a: u8, b: u8, c: u8) -> u64
     ensures { result ≡ look_up_sum (record { 0 = a; 1 = b; 2 = c }) log.now }
 {
     let name = Mnemonic(a, b, c);
@@ -192,8 +190,7 @@ fn print_line(reading: Reading, line: &[u8], buf: &mut [u8]) -> u64
 }
 
 // Every record printed again, each from the start of the lent bytes.
-#[unsafe(no_mangle)]
-pub extern "C" fn timed_print(log: &[u8], buf: &mut [u8]) -> u64
+pub fn timed_print(log: &[u8], buf: &mut [u8]) -> u64
     ensures { printed_out log.now buf.old ≡ record { sum = result; bytes = buf.new } }
 {
     let mut sum: u64 = 0;

@@ -28,8 +28,7 @@ fn of_moment(answer: Moment) -> u64
 }
 
 // The index of a log: what it holds for an hour.
-#[unsafe(no_mangle)]
-pub extern "C" fn timed_index(log: &[u8], hours: u8) -> u64
+pub fn timed_index(log: &[u8], hours: u8) -> u64
     ensures { result ≡ index_place log.now hours }
 {
     let index = index_of(log);
@@ -43,8 +42,7 @@ pub extern "C" fn timed_index(log: &[u8], hours: u8) -> u64
 }
 
 // The same, and a question for each minute of the hour.
-#[unsafe(no_mangle)]
-pub extern "C" fn timed_moments(log: &[u8], hours: u8, seconds: u8) -> u64
+pub fn timed_moments(log: &[u8], hours: u8, seconds: u8) -> u64
     ensures { result ≡ moment_sum 60 log.now hours seconds }
 {
     let index = index_of(log);
@@ -59,8 +57,7 @@ pub extern "C" fn timed_moments(log: &[u8], hours: u8, seconds: u8) -> u64
 }
 
 // The same questions with no index.
-#[unsafe(no_mangle)]
-pub extern "C" fn timed_walks(log: &[u8], hours: u8, seconds: u8) -> u64
+pub fn timed_walks(log: &[u8], hours: u8, seconds: u8) -> u64
     ensures { result ≡ moment_sum 60 log.now hours seconds }
 {
     let mut sum: u64 = 0;

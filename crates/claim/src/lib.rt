@@ -1,4 +1,6 @@
 // A record claim: a stricter reading of a whole log, or of a log in pieces, beside the ordinary one.
+#![tactic(auto)]
+
 pub mod verdict;
 
 ghost use Rattle.std.specs.Prelude.{◌≡◌, ◌+◌, ◌≤◌, ◌<◌, true, length};

@@ -1,4 +1,6 @@
 // The verdict on a record claim as text.
+#![tactic(auto)]
+
 ghost use Rattle.std.specs.Prelude.{◌≡◌};
 ghost use Rattle.put.specs.Put.{Wrote};
 ghost use Rattle.claim_text.specs.Text.{rule_text, no_text, verdict_text};

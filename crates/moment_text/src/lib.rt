@@ -1,4 +1,6 @@
 // The answers to times asked as HHMMSS, a line of text each.
+#![tactic(auto)]
+
 ghost use Rattle.std.specs.Prelude.{◌≡◌};
 ghost use Rattle.put.specs.Put.{Wrote};
 ghost use Rattle.time.specs.Time.{read_time_of};

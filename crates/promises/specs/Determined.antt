@@ -98,9 +98,9 @@ pub record Determined : Type 1 where
   pub ahead : {s : List ℕ} {at : ℕ} {r₁ r₂ : Cut} → Ahead s at r₁ → Ahead s at r₂ → r₁ ≡ r₂
   pub sees : {s : List ℕ} {at : ℕ} {r₁ r₂ : Seen} → Sees s at r₁ → Sees s at r₂ → r₁ ≡ r₂
   pub shows : {line r₁ r₂ : Bor (List ℕ)} {p : Part} → Shows line p r₁ → Shows line p r₂ →
-      (r₁.now ≡ r₂.now) × (r₁.ptr ≡ r₂.ptr)
+      (r₁.now ≡ r₂.now) × (r₁.ref_ptr ≡ r₂.ref_ptr)
   pub shows_one : {line labels r₁ r₂ : Bor (List ℕ)} {w : Where} → ShowsOne line labels w r₁ →
-      ShowsOne line labels w r₂ → (r₁.now ≡ r₂.now) × (r₁.ptr ≡ r₂.ptr)
+      ShowsOne line labels w r₂ → (r₁.now ≡ r₂.now) × (r₁.ref_ptr ≡ r₂.ref_ptr)
   pub wrote : {b t b₁ b₂ : List ℕ} {at r₁ r₂ : ℕ} → Wrote b at t b₁ r₁ → Wrote b at t b₂ r₂ → (r₁ ≡ r₂) × (b₁ ≡ b₂)
   pub prints : {m : Res (List ℕ)} {b b₁ b₂ : List ℕ} {r₁ r₂ : Printed} → Prints m b b₁ r₁ → Prints m b b₂ r₂ →
       (r₁ ≡ r₂) × (b₁ ≡ b₂)

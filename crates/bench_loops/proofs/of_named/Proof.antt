@@ -9,6 +9,6 @@ of_named_spec =
     tie.close
     (tie.spec
     (search rules) (search rules) (search rules) (search rules)
-    (λ c. let get = c.before in rw get.before.before.fix.given.1
-    (c.of-value.ensures ∙ ap of_value_of get.get.ensures.bytes))
-    (λ c. rw c.enum_told.given.1))
+    (λ c. let get = c.before in rw get.before.before.in-Fix.is
+    (c.of_value.ensures ∙ ap of_value_of get.get.ensures.bytes))
+    (λ c. rw c.in-Missing.is))

@@ -8,9 +8,9 @@ use Rattle.bench_loops.proofs.of_reading.Tie as tie
 
 -- of an accepted record that is this fix, or none
 seen : (c : tie.After-fix) {f : MaybeFix} → c.fix.result ≡ f →
-    of_accepted f ≡ of_answer (reading_res c.before.before.before.before.args.reading)
+    of_accepted f ≡ of_answer (reading_res c.before.before.args.reading)
 unfolding of_answer
-seen c e = rw c.before.before.reading.given.1 (ap of_accepted (sym e ∙ c.fix.ensures))
+seen c e = rw c.before.in-Accepted.is (ap of_accepted (sym e ∙ c.fix.ensures))
 
 pub of_reading_spec : {M : Type 1} → statement M
 unfolding of_answer of_accepted
@@ -18,6 +18,6 @@ of_reading_spec =
     tie.close
     (tie.spec
     (search rules) (search rules) (search rules) (search rules) (search rules) (search rules)
-    (λ c. rw c.enum_told.given.1)
-    (λ c. let fix = c.before.before in c.of-fix.ensures ∙ seen fix.before.before fix.fix2.given.1)
-    (λ c. seen c.before.before c.enum-told2.given.1))
+    (λ c. rw c.in-Refused.is)
+    (λ c. let fix = c.before in c.of_fix.ensures ∙ seen fix.before fix.in-Fix.is)
+    (λ c. seen c.before c.in-Missing.is))

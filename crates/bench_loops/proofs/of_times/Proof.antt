@@ -9,5 +9,5 @@ of_times_spec =
     tie.close
     (tie.spec
     (search rules) (search rules) (search rules) (search rules) (search rules)
-    (λ c. rw c.enum_told.given.1)
-    (λ c. rw c.before.before.range.given.1 c.wrapping-add-u64.ensures))
+    (λ c. rw c.in-Missing.is)
+    (λ c. rw c.before.in-Between.is c.wrapping_add_u64.ensures))

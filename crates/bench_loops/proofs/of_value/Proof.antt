@@ -16,6 +16,6 @@ of_value_spec =
     (tie.spec
     (λ c. empty (c.before.before.args.value.now) (omega arith))
     (search rules)
-    (λ c. omega (arith, c.shared-slice-known2.given 0))
+    (λ c. omega (arith, c.shared_slice_known-2-1.given 0))
     (search rules)
-    (λ c. c.wrapping-add-u64.ensures))
+    (λ c. c.wrapping_add_u64.ensures))

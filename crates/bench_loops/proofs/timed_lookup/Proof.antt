@@ -9,21 +9,21 @@ use Rattle.bench_loops.proofs.timed_lookup.Statement.{statement}
 use Rattle.bench_loops.proofs.timed_lookup.Tie as tie
 
 -- how many lines were read is not looked at
-abbrev invariant-loop : tie.invariant-loop
+abbrev invariant-loop : tie.invariant-loop-at
 invariant-loop log a b c name held₀ sum₀ at₀ held sum at =
     (n : ℕ) × Reached reader (look_up_step name) (fresh reader 0) log
     at (record { number = n; place = at; held = held; made = sum })
 
-abbrev decreases-loop : tie.decreases-loop
+abbrev decreases-loop : tie.decreases-loop-at
 decreases-loop log a b c name held₀ sum₀ at₀ held sum at = length log - at
 
-loop-less : tie.Need-loop-smaller invariant-loop decreases-loop
+loop-less : tie.Need-loop-at-smaller invariant-loop decreases-loop
 loop-less c =
     let read = c.before.before.before.before.before.before.before.before in
     let test = read.before in
-    less_left test.loop-test.true test.before.loop.invariant.1 read.read_at.ensures
+    less_left test.before.loop-at-test.true test.before.before.loop-at.invariant.1 read.before.read_at-got.ensures
 
-loop-again : tie.Need-loop-preserved invariant-loop decreases-loop
+loop-again : tie.Need-loop-at-preserved invariant-loop decreases-loop
 unfolding look_up_step summed
 loop-again c =
     let named = c.before in
@@ -34,16 +34,16 @@ loop-again c =
     let view = after.before in
     let read = view.before.before in
     let test = read.before in
-    let held = rw view.view.ensures.bytes at after.after.ensures in
+    let held = rw view.before.view-line.ensures.bytes at after.before.after-held.ensures in
     let made = rw (
-      sum.wrapping-add-u64.ensures,
-      of.of-reading.ensures,
-      named.of-named.ensures,
+      sum.before.wrapping_add_u64-sum.ensures,
+      of.before.of_reading.ensures,
+      named.of_named.ensures,
       fix.fix.ensures,
       held,
-      view.view.ensures.bytes,
-    ) at c.wrapping-add-u642.ensures in
-    (_, turn test.loop-test.true test.before.loop.invariant.1 read.read_at.ensures (omega arith) held made)
+      view.before.view-line.ensures.bytes,
+    ) at c.wrapping_add_u64-sum-in-loop-at.ensures in
+    (_, turn test.before.loop-at-test.true test.before.before.loop-at.invariant.1 read.before.read_at-got.ensures (omega arith) held made)
 
 pub timed_lookup_spec : {M : Type 1} → statement M
 unfolding look_up_sum
@@ -53,9 +53,9 @@ timed_lookup_spec =
     invariant-loop
     decreases-loop
     (search rules)
-    (λ c. rw c.new.ensures (_, at_start))
+    (λ c. rw c.new-held.ensures (_, at_start))
     (search rules) (search rules) (search rules) (search rules) (search rules) (search rules) (search rules)
     (search rules)
     loop-less
     loop-again
-    (λ c. product c.loop-test.false c.before.loop.invariant.1))
+    (λ c. product c.loop-at-test.false c.before.loop-at.invariant.1))

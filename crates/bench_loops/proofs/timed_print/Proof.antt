@@ -5,28 +5,28 @@ use Rattle.bench_loops.specs.Timed.{summed, print_step, printed_out}
 use Rattle.bench_loops.proofs.timed_print.Statement.{statement}
 use Rattle.bench_loops.proofs.timed_print.Tie as tie
 
-abbrev invariant-loop : tie.invariant-loop
+abbrev invariant-loop : tie.invariant-loop-at
 invariant-loop log buf₀ sum₀ at₀ buf sum at =
     Made print_step (record { sum = 0; bytes = buf₀ }) log at (record { sum = sum; bytes = buf })
     × (length buf ≡ length buf₀)
 
-abbrev decreases-loop : tie.decreases-loop
+abbrev decreases-loop : tie.decreases-loop-at
 decreases-loop log buf₀ sum₀ at₀ buf sum at = length log - at
 
-loop-less : tie.Need-loop-smaller invariant-loop decreases-loop
+loop-less : tie.Need-loop-at-smaller invariant-loop decreases-loop
 loop-less c =
     let read = c.before.before.before.before.before.before.before in
-    near read.before.loop-test.true read.before.before.loop.invariant.0 read.read_at.ensures
+    near read.before.loop-at-test.true read.before.before.loop-at.invariant.0 read.read_at-got.ensures
 
-loop-again : tie.Need-loop-preserved invariant-loop decreases-loop
+loop-again : tie.Need-loop-at-preserved invariant-loop decreases-loop
 unfolding print_step summed
 loop-again c =
     let print = c.before.before.before in
     let view = print.before.before in
     let read = view.before.before in
-    let p = rw view.view.ensures.bytes at print.print-line.ensures in (
-      line read.before.loop-test.true read.before.before.loop.invariant.0 read.read_at.ensures
-          (λ n h. rw (c.wrapping-add-u64.ensures, p.answer, p.left)),
+    let p = rw view.view-line.ensures.bytes at print.print_line.ensures in (
+      line read.before.loop-at-test.true read.before.before.loop-at.invariant.0 read.read_at-got.ensures
+          (λ n h. rw (c.wrapping_add_u64-sum.ensures, p.answer, p.left)),
       search rules,
     )
 
@@ -42,4 +42,4 @@ timed_print_spec =
     loop-less
     loop-again
     (search rules)
-    (λ c. sym (at_end c.loop-test.false c.before.loop.invariant.0)))
+    (λ c. sym (at_end c.loop-at-test.false c.before.loop-at.invariant.0)))

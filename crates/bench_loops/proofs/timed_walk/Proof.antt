@@ -19,18 +19,18 @@ returns c =
     let counts = gps.before.before in
     let walk = counts.before.before in
     let s = walk.before.before.before.args.log.now in
-    let ended : walk.walk-to-end.result ≡ at_end_of s fresh =
-    rw walk.before.new.ensures at walk.walk-to-end.ensures in
+    let ended : walk.walk_to_end-walk.result ≡ at_end_of s fresh =
+    rw walk.before.new.ensures at walk.walk_to_end-walk.ensures in
     let report = ap (λ (w : Walk). w.report) ended ∙ end_report s (omega arith) in
     let figures = ap figures_in report ∙ figures_made (report_of (readings reader s)) in
     rw (sym figures) (rw (
-      c.before.before.wrapping-add-u643.ensures,
-      c.before.of-times.ensures,
-      c.before.before.before.wrapping-add-u642.ensures,
-      gps.of-gps.ensures,
-      gps.before.of-pressure.ensures,
-      counts.wrapping-add-u64.ensures,
-    ) at c.wrapping-add-u644.ensures)
+      c.before.before.wrapping_add_u64.ensures,
+      c.before.of_times.ensures,
+      c.before.before.before.wrapping_add_u64-heights.ensures,
+      gps.of_gps.ensures,
+      gps.before.of_pressure.ensures,
+      counts.wrapping_add_u64-counts.ensures,
+    ) at c.wrapping_add_u64-2.ensures)
 
 pub timed_walk_spec : {M : Type 1} → statement M
 timed_walk_spec =

@@ -6,7 +6,7 @@ use Rattle.claim.proofs.claim.Tie as tie
 decided : tie.Need-returns
 decided c =
     let on = c.before in
-    rw (on.claim-on.ensures, on.before.new.ensures) at c.at_end.ensures
+    rw (on.claim_on-sofar.ensures, on.before.new.ensures) at c.at_end.ensures
     ∙ in_pieces.whole _ (omega arith)
 
 pub claim_spec : {M : Type 1} → statement M

@@ -11,4 +11,4 @@ claim_on_spec =
     (search rules)
     (λ c. second _ (no≤ (omega arith)) refl)
     (search rules)
-    (λ c. first _ (yes≤ (omega arith)) c.claim-from.ensures))
+    (λ c. first _ (yes≤ (omega arith)) c.claim_from.ensures))

@@ -21,5 +21,5 @@ goes_back_spec =
     tie.close
     (tie.spec
     (search rules) (search rules)
-    (λ c. rw c.before.second.given.1 (earlier_tested _ _))
-    (λ c. rw c.enum_told.given.1))
+    (λ c. rw c.in-Second.is (earlier_tested _ _))
+    (λ c. rw c.in-Missing.is))

@@ -9,5 +9,5 @@ is_again_spec =
     tie.close
     (tie.spec
     (search rules)
-    (λ c. sym (holds c.before.if1.true (sym c.either.ensures)))
-    (λ c. sym (fails _ c.if1.false)))
+    (λ c. sym (holds c.before.if-here.true (sym c.either.ensures)))
+    (λ c. sym (fails _ c.if-here.false)))

@@ -9,5 +9,5 @@ last_with_spec =
     tie.close
     (tie.spec
     (search rules) (search rules)
-    (λ c. rw c.before.second.given.1)
-    (λ c. rw c.enum_told.given.1))
+    (λ c. rw c.in-Second.is)
+    (λ c. rw c.in-Missing.is))

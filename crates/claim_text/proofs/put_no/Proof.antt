@@ -13,5 +13,5 @@ pub put_no_spec : {M : Type 1} → statement M
 put_no_spec =
     tie.close
     (tie.spec
-    (search rules) (search rules) (search rules) (search rules) (search rules) (search rules)
+    (search rules) (search rules) (search rules) (search rules) (search rules)
     written)

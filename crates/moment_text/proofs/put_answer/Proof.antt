@@ -7,7 +7,7 @@ returns : tie.Need-returns
 returns c =
     let line = c.before.before in
     let answer = line.before.before in
-    rw (← answer.before.parse.ensures, ← answer.answer.ensures) line.put-line.ensures
+    rw (← answer.before.parse.ensures, ← answer.answer-found.ensures) line.put_line.ensures
 
 pub put_answer_spec : {M : Type 1} → statement M
 put_answer_spec =

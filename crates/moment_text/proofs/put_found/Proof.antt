@@ -4,17 +4,17 @@ use Rattle.moment_text.specs.Answers.{found_text}
 use Rattle.moment_text.proofs.put_found.Statement.{statement}
 use Rattle.moment_text.proofs.put_found.Tie as tie
 
-found : tie.Need-returns
+found : tie.Need-returns-in-Found
 unfolding found_text
-found c = let e : tie.After-answer = search rules in rw e.answer.given.1 (search (then))
+found c = let e : tie.In-Found = search rules in rw e.in-Found.is (search (then))
 
-none : tie.Need-returns-2
+none : tie.Need-returns-in-NoSuchFix
 unfolding found_text
-none c = rw c.enum_told.given.1 (wrote_nothing _ _ (omega arith) (omega arith))
+none c = rw c.in-NoSuchFix.is (wrote_nothing _ _ (omega arith) (omega arith))
 
-refused : tie.Need-returns-3
+refused : tie.Need-returns-in-Refused
 unfolding found_text
-refused c = rw c.enum-told2.given.1 (wrote_nothing _ _ (omega arith) (omega arith))
+refused c = rw c.in-Refused.is (wrote_nothing _ _ (omega arith) (omega arith))
 
 pub put_found_spec : {M : Type 1} → statement M
 put_found_spec =

@@ -13,8 +13,8 @@ returns c =
     let number = found.before.before.before.before in
     let word = number.before.before.before.before.before in
     rw number.before.number.ensures
-    at (then word.put-bytes.ensures
-    (then number.show-number.ensures (then found.put-found.ensures lf.put_byte.ensures)))
+    at (then word.put_bytes-at_answer.ensures
+    (then number.show_number-at_found.ensures (then found.put_found-at_end.ensures lf.put_byte.ensures)))
 
 pub put_line_spec : {M : Type 1} → statement M
 put_line_spec =

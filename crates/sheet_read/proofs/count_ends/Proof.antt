@@ -1,10 +1,10 @@
 use Rattle.text.specs.Prelude.{◌+◌, ◌-◌, ◌≤◌, ◌≡◌, length, drop}
 use Rattle.text.proofs.Prelude.{rules, arith}
-use mathlib.Core.Logic.{⊎_elim}
 use Rattle.sheet_read.specs.Sheet.{ends}
 use Rattle.sheet_read.proofs.Lines.{end_here, no_end_here, ends_counted}
 use Rattle.sheet_read.proofs.count_ends.Statement.{statement}
 use Rattle.sheet_read.proofs.count_ends.Tie as tie
+use Rattle.sheet_read.proofs.count_ends.Lts.{then-text-i-eq10, else-text-i-eq10}
 
 abbrev invariant-loop : tie.invariant-loop-i
 invariant-loop text count₀ i₀ count i = (i ≤ length text) × (count ≤ i) × (count + ends (drop i text) ≡ ends text)
@@ -30,10 +30,18 @@ loop-less c = search rules
 loop-again : tie.Need-loop-i-preserved invariant-loop decreases-loop
 loop-again c =
     let l = c.before.before.before.loop-i in
-    ⊎_elim
-    (λ w. (search rules, search rules, rw w.1 (end_here _ _ l.i (search rules) l.invariant.2 w.0.taken)))
-    (λ w. (search rules, search rules, rw w.1 (no_end_here _ _ l.i (search rules) l.invariant.2 w.0.left)))
-    c.if-text-i-eq10.branch
+    elim c.if-text-i-eq10.branch [
+      | then-text-i-eq10 w ↦ (
+        search rules,
+        search rules,
+        rw w.count-is (end_here _ _ l.i (search rules) l.invariant.2 w.if-text-i-eq10.true),
+      )
+      | else-text-i-eq10 w ↦ (
+        search rules,
+        search rules,
+        rw w.count-is (no_end_here _ _ l.i (search rules) l.invariant.2 w.if-text-i-eq10.false),
+      )
+    ]
 
 returns : tie.Need-returns invariant-loop decreases-loop
 returns c = let l = c.before.loop-i in ends_counted _ _ l.i (search rules) l.invariant.2

@@ -1,12 +1,12 @@
 use Rattle.text.specs.Prelude.{◌+◌, ◌-◌, ◌≤◌, ◌≡◌, length, drop}
 use Rattle.text.proofs.Prelude.{rules, arith, ap, never}
-use mathlib.Core.Logic.{⊎_elim}
 use native.Mathlib.Nat.{sub-zero}
 use Rattle.block_read.specs.Block.{block_of, block_read}
 use Rattle.sheet_read.specs.Sheet.{beside}
 use Rattle.sheet_read.proofs.Lines.{rest_of, ends_part, sheet_whole, sheet_stopped, stop_inside}
 use Rattle.sheet_read.proofs.read_sheet.Statement.{statement}
 use Rattle.sheet_read.proofs.read_sheet.Tie as tie
+use Rattle.sheet_read.proofs.read_sheet.Lts.{then-block+else-stop-text, else-block}
 
 -- what was read of the last block
 block : (c : tie.After-read_block-block) →
@@ -34,7 +34,7 @@ all c =
     let read = rw g.if-block.true at (block r) in
     ap beside (sheet_whole _ f.result f.ensures.1 f.ensures.0 read e.if-stop-text.true)
 
-part_end : tie.Need-slice-bounds-count-ends-end
+part_end : tie.Need-slice_bounds-count_ends-end
 part_end c = let h = inside c.before.before in search rules
 
 add_line : tie.Need-overflow_add-line
@@ -56,7 +56,10 @@ stopped c =
     let j : tie.Joined-block = search rules in
     rw (c.new.ensures, c.before.count_ends-line.ensures, sub-zero)
     (ap beside (sheet_stopped _ f.result f.ensures.1 f.ensures.0 (block r)
-    (λ g e. ⊎_elim (λ w. w.1.left e) (λ w. never g w.left) j.if-block.came)))
+    (λ g e. elim j.if-block.branch [
+      | then-block+else-stop-text w ↦ w.if-stop-text.false e
+      | else-block w ↦ never g w.if-block.false
+    ])))
 
 pub read_sheet_spec : {M : Type 1} → statement M
 read_sheet_spec =

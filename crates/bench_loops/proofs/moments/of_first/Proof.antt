@@ -9,5 +9,5 @@ of_first_spec =
     tie.close
     (tie.spec
     (search rules) (search rules)
-    (λ c. rw c.enum_told.given.1)
-    (λ c. let e : tie.After-first = search rules in rw e.first.given.1))
+    (λ c. rw c.in-Nowhere.is)
+    (λ c. let e : tie.In-At = search rules in rw e.in-At.is))

@@ -9,6 +9,6 @@ of_moment_spec =
     tie.close
     (tie.spec
     (search rules) (search rules) (search rules)
-    (λ c. let e : tie.After-answer = search rules in rw e.answer.given.1)
-    (λ c. rw c.enum_told.given.1)
-    (λ c. rw c.enum-told2.given.1))
+    (λ c. let e : tie.In-Found = search rules in rw e.in-Found.is)
+    (λ c. rw c.in-NoSuchFix.is)
+    (λ c. rw c.in-Refused.is))

@@ -7,25 +7,25 @@ use Rattle.bench_loops.proofs.moments.timed_walks.Statement.{statement}
 use Rattle.bench_loops.proofs.moments.timed_walks.Tie as tie
 
 -- the sum over the minutes before
-abbrev invariant-loop : tie.invariant-loop
+abbrev invariant-loop : tie.invariant-loop-minutes
 invariant-loop log hours seconds sum₀ minutes₀ sum minutes = (minutes ≤ 60) × (sum ≡ moment_sum minutes log hours seconds)
 
-abbrev decreases-loop : tie.decreases-loop
+abbrev decreases-loop : tie.decreases-loop-minutes
 decreases-loop log hours seconds sum₀ minutes₀ sum minutes = 60 - minutes
 
-again : tie.Need-loop-preserved invariant-loop decreases-loop
+again : tie.Need-loop-minutes-preserved invariant-loop decreases-loop
 unfolding summed
 again c =
     let of = c.before in
     let find = of.before in
     let l = find.before.before in (
       omega arith,
-      minute_more _ _ _ l.loop.minutes l.loop.invariant.1 find.find-by-walk.ensures of.of-moment.ensures
-          c.wrapping-add-u64.ensures,
+      minute_more _ _ _ l.loop-minutes.minutes l.loop-minutes.invariant.1 find.find_by_walk-answer.ensures of.of_moment.ensures
+          c.wrapping_add_u64-sum.ensures,
     )
 
 ends : tie.Need-returns invariant-loop decreases-loop
-ends c = let all : c.before.loop.minutes ≡ 60 = omega arith in rw all at c.before.loop.invariant.1
+ends c = let all : c.before.loop-minutes.minutes ≡ 60 = omega arith in rw all at c.before.loop-minutes.invariant.1
 
 pub timed_walks_spec : {M : Type 1} → statement M
 unfolding moment_sum

@@ -8,5 +8,5 @@ unfolding no_start
 is_no_start_spec =
     tie.close
     (tie.spec
-    (λ c. sym (fails _ (no= c.if1.true)))
-    (λ c. sym (holds (yes= c.before.if1.false) refl)))
+    (λ c. sym (fails _ (no= c.if-self-ne0.true)))
+    (λ c. sym (holds (yes= c.before.if-self-ne0.false) refl)))

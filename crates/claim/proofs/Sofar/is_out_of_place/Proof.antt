@@ -10,6 +10,6 @@ is_out_of_place_spec =
     tie.close
     (tie.spec
     (search rules)
-    (λ c. rw (sym c.before.is-again.ensures ∙ c.if1.true))
+    (λ c. rw (sym c.before.is_again.ensures ∙ c.if-is_again.true))
     (search rules)
-    (λ c. rw (sym c.before.before.is-again.ensures ∙ c.before.if1.false) c.is-again2.ensures))
+    (λ c. rw (sym c.before.before.is_again.ensures ∙ c.before.if-is_again.false) c.is_again-2.ensures))

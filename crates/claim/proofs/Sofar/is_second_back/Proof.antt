@@ -9,5 +9,5 @@ is_second_back_spec =
     tie.close
     (tie.spec
     (search rules)
-    (λ c. sym (holds c.before.if1.true (sym c.goes_back.ensures)))
-    (λ c. sym (fails _ c.if1.false)))
+    (λ c. sym (holds c.before.if-self.true (sym c.goes_back.ensures)))
+    (λ c. sym (fails _ c.if-self.false)))

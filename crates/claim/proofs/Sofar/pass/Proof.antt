@@ -11,12 +11,12 @@ returns c =
     let i = j.before in
     let back = i.before in
     rw (
-      back.either.ensures,
+      back.either-back.ensures,
       back.before.goes_back.ensures,
-      i.either2.ensures,
-      j.either3.ensures,
-      b.either4.ensures,
-      c.last-with.ensures,
+      i.either-i.ensures,
+      j.either-j.ensures,
+      b.either-b.ensures,
+      c.last_with.ensures,
     )
 
 pub pass_spec : {M : Type 1} → statement M

@@ -9,5 +9,5 @@ is_yes_spec =
     tie.close
     (tie.spec
     (search rules) (search rules)
-    (λ c. rw c.enum_told.given.1)
-    (λ c. rw c.enum-told2.given.1))
+    (λ c. rw c.in-Yes.is)
+    (λ c. rw c.in-No.is))
