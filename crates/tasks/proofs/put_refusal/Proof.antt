@@ -13,14 +13,14 @@ returns c =
     let comma = words.before.before.before.before in
     let number = comma.before.before.before.before.before in
     let task = number.before.before.before.before.before in
-    then task.put-bytes.ensures
-    (then (rw number.before.number.ensures at number.put-nat.ensures)
-    (then comma.put-bytes2.ensures (then words.put-words.ensures lf.put_byte.ensures)))
+    then task.before.put_bytes-at_number.ensures
+    (then (rw number.before.before.number.ensures at number.before.put_nat-at_comma.ensures)
+    (then comma.put_bytes-at_words.ensures (then words.put_words-at_lf.ensures lf.put_byte.ensures)))
 
 pub put_refusal_spec : {M : Type 1} → statement M
 put_refusal_spec =
     tie.close
     (tie.spec
     (search rules) (search rules) (search rules) (search rules) (search rules)
-    (search rules) (search rules) (search rules) (search rules) (search rules)
+    (search rules) (search rules) (search rules)
     returns)

@@ -10,16 +10,16 @@ put_words_spec =
     tie.close
     (tie.spec
     (search rules) (search rules) (search rules) (search rules) (search rules) (search rules)
-    (search rules) (search rules) (search rules) (search rules) (search rules) (search rules)
+    (search rules) (search rules)
     (search rules)
     (λ c. let put = c.before.before in
-    rw put.before.before.before.enum_told.given.1 put.put-bytes.ensures)
+    rw put.before.before.before.before.in-NoDeclaration.is put.put_bytes.ensures)
     (search rules)
     (λ c. let put = c.before.before in
-    rw put.before.before.before.enum-told2.given.1 put.put-bytes2.ensures)
+    rw put.before.before.before.before.in-NegativeCount.is put.put_bytes-in-NegativeCount.ensures)
     (search rules)
     (λ c. let put = c.before.before in
-    rw put.before.before.before.enum-told3.given.1 put.put-bytes3.ensures)
+    rw put.before.before.before.before.in-Interrupted.is put.put_bytes-in-Interrupted.ensures)
     (search rules)
     (λ c. let put = c.before.before in
-    rw put.before.before.before.enum-told4.given.1 put.put-bytes4.ensures))
+    rw put.before.before.before.before.in-NoRoom.is put.put_bytes-in-NoRoom.ensures))

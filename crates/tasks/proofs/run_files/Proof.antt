@@ -4,12 +4,12 @@ use Rattle.tasks.proofs.run_files.Statement.{statement}
 use Rattle.tasks.proofs.run_files.Tie as tie
 
 -- what was read is inside
-inside : tie.Need-answer-of-requires
+inside : tie.Need-answer_of-requires
 inside c κs =
     let labels = c.before.before.before.before in
     let log = labels.before.before.before in (
-      ended_inside log.fill.result log.fill.ensures,
-      ended_inside labels.fill-labels.result labels.fill-labels.ensures,
+      ended_inside log.fill-log_filled.result log.fill-log_filled.ensures,
+      ended_inside labels.fill_labels-labels_filled.result labels.fill_labels-labels_filled.ensures,
     )
 
 pub run_files_spec : {M : Type 1} → statement M
@@ -17,6 +17,6 @@ run_files_spec =
     tie.close
     (tie.spec
     (search rules) (search rules) (search rules) (search rules) (search rules) (search rules)
-    (search rules) (search rules) (search rules) (search rules) (search rules)
+    (search rules) (search rules) (search rules) (search rules)
     inside
     (search rules) (search rules) (search rules) (search rules) (search rules) (search rules))
