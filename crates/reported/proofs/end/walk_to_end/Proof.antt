@@ -63,7 +63,7 @@ turned : (c : tie.Joined-sets_table invariant-loop decreases-loop) → let l = c
 turned c =
     let is = sym c.before.sets_table.ensures in
     elim c.if-sets_table.branch [
-      then-sets_table w ↦ (
+      | then-sets_table w ↦ (
         w.seen-is ∙ w.of_table-seen.ensures ∙ table_seen _ w.parse-read.ensures (is ∙ w.if-sets_table.true),
         w.held-is ∙ w.with_table-held.ensures,
       )
