@@ -1,6 +1,7 @@
 // A log of any length judged as a record claim through a window of fixed size: it is read, cut behind the last line
 // that is whole, and these lines are taken; the rest waits for the next read. A line that fills the window is too long
 // whatever follows, and so it needs no larger one.
+#![tactic(auto)]
 
 ghost use Rattle.std.specs.Prelude.{◌≡◌, ◌≤◌, length};
 ghost use Rattle.files.specs.Input.{Within};
@@ -13,6 +14,7 @@ use files::input::{Filled, is_dash, open, read_on};
 use files::outcome::Outcome;
 use files::output::write_all;
 use files::say::{fail, tell, write_block};
+use files::system::{Sink, Source, System, buffer};
 use window::{keep_rest, piece_end};
 
 // What goes from read to read: what the lines so far come to, how many bytes wait at the window's front, and whether a
@@ -105,7 +107,7 @@ fn one_turn(filled: Filled, sofar: Sofar, win: &mut [u8]) -> Turn
 }
 
 // Reads a log to its end, a window at a time. A line of 78 bytes that the window does not end is too long.
-fn claim_file(fd: i32, win: &mut [u8]) -> FileClaim
+fn claim_file(sys: &System, from: &Source, win: &mut [u8]) -> FileClaim
     requires { 78 ≤ length win.old }
     ensures { Judged result.sofar }
 {
@@ -114,7 +116,7 @@ fn claim_file(fd: i32, win: &mut [u8]) -> FileClaim
     let mut turns: u64 = 0;
     while turns < 0xffff_ffff_ffff_ffff {
         turns += 1;
-        let filled = read_on(fd, win, fill);
+        let filled = read_on(sys, from, win, fill);
         let t = one_turn(filled, sofar, win);
         sofar = t.sofar;
         fill = t.fill;
@@ -136,61 +138,60 @@ fn window() -> [u8; 1048576]
 }
 
 // The verdict's line; and where it was written, 0 for yes and 1 for no on the descriptor `told`, if there is one.
-fn say(verdict: Verdict, told: i32) {
-    let mut out = io::buffer();
+fn say(sys: &System, verdict: Verdict, told: Sink) {
+    let mut out = buffer();
     let end = put_verdict(&mut out, 0, verdict);
-    if !write_block(&mut out, end) {
+    if !write_block(sys, &mut out, end) {
         return;
     }
     if verdict.is_yes() {
-        write_all(told, b"0");
+        write_all(sys, told, b"0");
         return;
     }
-    write_all(told, b"1");
+    write_all(sys, told, b"1");
 }
 
 // A log that could not be read to its end has no verdict, whatever stood in front.
-fn claim_input(fd: i32, file: &[u8], told: i32) {
+fn claim_input(sys: &System, from: &Source, file: &[u8], told: Sink) {
     let mut win = window();
-    let read = claim_file(fd, &mut win);
+    let read = claim_file(sys, from, &mut win);
     let sofar = read.sofar;
     let outcome = read.outcome;
     if outcome.has_failed() {
-        tell(-1, file, outcome);
+        tell(sys, Sink::Nowhere, file, outcome);
         return;
     }
-    say(sofar.at_end(), told);
+    say(sys, sofar.at_end(), told);
 }
 
-fn claim_named(file: &[u8], told: i32) {
-    let fd = open(file);
-    if fd < 0 {
-        fail(file, b"cannot be opened");
+fn claim_named(sys: &System, file: &[u8], told: Sink) {
+    let Some(from) = open(sys, file) else {
+        fail(sys, file, b"cannot be opened");
         return;
-    }
+    };
     if is_dash(file) {
-        claim_input(fd, b"standard input", told);
+        claim_input(sys, &from, b"standard input", told);
         return;
     }
-    claim_input(fd, file, told);
+    claim_input(sys, &from, file, told);
 }
 
 // The verdict on the log that the argument `at` names; where there is none, on that of standard input.
-pub fn run_claim(at: usize, told: i32) {
-    let words = os::arg_count();
+pub fn run_claim(sys: &System, at: usize, told: Sink) {
+    let words = sys.arg_count();
     if words <= at {
-        claim_input(0, b"standard input", told);
+        claim_input(sys, &Source::Input, b"standard input", told);
         return;
     }
     if words - at > 1 {
-        write_all(2, b"tokelivo: claim takes one file\n");
+        write_all(sys, Sink::Errors, b"tokelivo: claim takes one file\n");
         return;
     }
-    let mut file = io::buffer();
-    let n = os::arg(at, &mut file);
-    if os::errno() != 0 {
-        fail(b"the file's name", b"cannot be taken");
+    let mut file = buffer();
+    let n = sys.arg(at, &mut file);
+    if sys.errno() != 0 {
+        fail(sys, b"the file's name", b"cannot be taken");
         return;
     }
-    claim_named(&file[0..n], told);
+    claim_named(sys, &file[0..n], told);
 }

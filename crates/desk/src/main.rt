@@ -4,8 +4,11 @@
 //
 // The gate runs it with names as arguments: each fix is asked for these in place of the I line's, and after the text
 // stands the 0 that tells that nothing went wrong.
+#![tactic(auto)]
+
+use files::system::System;
 use words::run_words;
 
-fn main() {
-    run_words();
+fn main(rt: HostRuntime) {
+    run_words(&System::new(rt));
 }

@@ -6,8 +6,11 @@
 // to them with no Rust at hand. Lines on which the two differ (docs/DIFFERENCES.md) are left out, but for unreadable
 // numbers, which the sample gives the paper's 3. By the book, the tables in force and lookup by name are not the Rust's
 // and come from the oracle's glue.
+#![tactic(auto)]
+
+use files::system::System;
 use listings::run_fields_of_input;
 
-fn main() {
-    run_fields_of_input();
+fn main(rt: HostRuntime) {
+    run_fields_of_input(&System::new(rt));
 }

@@ -8,8 +8,7 @@ use lib.Signed.{lt_z, non_neg}
 use mir.Syntax.{w32, w64}
 use mir.Val.{SFits, Fits, of_z}
 use borrow.Author.Tests.{ltb-true}
-use Rattle.libc.specs.Io.{Moved}
-use Rattle.files.specs.Call.{is_errno, did_of, NoMoreThan}
+use Rattle.files.specs.Call.{is_errno, did_of, NoMoreThan, Moved}
 use Rattle.files.specs.declared.call.Did.{Did}
 
 -- the test of errno

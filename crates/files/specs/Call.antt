@@ -1,5 +1,5 @@
 -- What one call of `read` or of `write` did.
-use Rattle.std.specs.Prelude.{◌+◌, ◌≤◌}
+use Rattle.std.specs.Prelude.{◌+◌, ◌≤◌, ◌≡◌}
 use Rattle.text.specs.Prelude.{ℕ, zero, suc, Bool, false, List, length, ℤ, pos, negsuc, pick, ◌=?◌}
 use Rattle.files.specs.declared.call.Did.{Did}
 use Rattle.files.specs.declared.call.Did.TheVariants.{Bytes, Nothing, Again, Closed, Failed}
@@ -15,6 +15,11 @@ unfoldable pub did_of : ℤ → ℤ → Did
 did_of (pos zero) errno = Nothing
 did_of (pos (suc n)) errno = Bytes (suc n)
 did_of (negsuc k) errno = pick (is_errno 4 errno) Again (pick (is_errno 32 errno) Closed Failed)
+
+-- What a call that is handed n bytes may answer: -1, or how many bytes it moved, at most n.
+abbrev pub Moved : ℕ → ℤ → Type 0
+Moved n (pos k) = k ≤ n
+Moved n (negsuc k) = k ≡ 0
 
 -- No more bytes were moved than there are from the place on.
 abbrev pub NoMoreThan : ℕ → List ℕ → Did → Type 0

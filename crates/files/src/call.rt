@@ -2,6 +2,11 @@
 ghost use Rattle.std.specs.Prelude.{◌≡◌};
 ghost use Rattle.files.specs.Call.{did_of};
 
+// The numbers of errors, as Linux has them.
+const EINTR: i32 = 4;
+
+const EPIPE: i32 = 32;
+
 // It moved bytes, or none; a signal interrupted it; nobody reads the pipe any more; it failed.
 #[derive(Clone, Copy)]
 pub enum Did {
@@ -17,10 +22,10 @@ pub fn did_by(got: isize, errno: i32) -> Did
     ensures { result ≡ did_of got errno }
 {
     if got < 0 {
-        if errno == libc::EINTR {
+        if errno == EINTR {
             return Did::Again;
         }
-        if errno == libc::EPIPE {
+        if errno == EPIPE {
             return Did::Closed;
         }
         return Did::Failed;

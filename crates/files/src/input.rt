@@ -1,8 +1,9 @@
-// Reading a descriptor into lent bytes.
-ghost use Rattle.std.specs.Prelude.{◌≡◌, true, ◌≤◌, length, pos};
+// Reading into lent bytes.
+ghost use Rattle.std.specs.Prelude.{◌≡◌, true, ◌≤◌, length, Some};
 ghost use Rattle.files.specs.Input.{CameBehind, FilledBehind, MoreBehind, is_dash_of};
 
 use crate::call::{Did, did_by};
+use crate::system::{Source, System};
 
 // How far lent bytes were filled: up to the input's end; wholly, and no end was seen; or a read failed.
 #[derive(Clone, Copy)]
@@ -23,16 +24,16 @@ pub enum Came {
 }
 
 // One call, behind the first bytes.
-fn read_some(fd: i32, buf: &mut [u8], at: usize) -> Did
+fn read_some(sys: &System, from: &Source, buf: &mut [u8], at: usize) -> Did
     requires { at ≤ length buf.old }
     ensures { CameBehind at buf.old buf.new result }
 {
-    let got = libc::read(fd, &mut buf[at..]);
-    did_by(got, os::errno())
+    let got = sys.read(from, &mut buf[at..]);
+    did_by(got, sys.errno())
 }
 
 // Reads behind the first bytes until the lent ones are full or the input ends.
-pub fn read_on(fd: i32, buf: &mut [u8], from: usize) -> Filled
+pub fn read_on(sys: &System, source: &Source, buf: &mut [u8], from: usize) -> Filled
     ensures { FilledBehind from buf.old buf.new result }
 {
     let mut at = from;
@@ -42,7 +43,7 @@ pub fn read_on(fd: i32, buf: &mut [u8], from: usize) -> Filled
             return Filled::Failed;
         }
         turns += 1;
-        match read_some(fd, buf, at) {
+        match read_some(sys, source, buf, at) {
             Did::Bytes(n) => {
                 at = at + n;
             }
@@ -62,7 +63,7 @@ pub fn read_on(fd: i32, buf: &mut [u8], from: usize) -> Filled
 }
 
 // Reads behind the first bytes once, as many bytes as are at hand: it waits for the first of them alone.
-pub fn read_more(fd: i32, buf: &mut [u8], from: usize) -> Came
+pub fn read_more(sys: &System, source: &Source, buf: &mut [u8], from: usize) -> Came
     ensures { MoreBehind from buf.old buf.new result }
 {
     if buf.len() <= from {
@@ -71,7 +72,7 @@ pub fn read_more(fd: i32, buf: &mut [u8], from: usize) -> Came
     let mut turns: u64 = 0;
     while turns < 0xffff_ffff_ffff_ffff {
         turns += 1;
-        match read_some(fd, buf, from) {
+        match read_some(sys, source, buf, from) {
             Did::Bytes(n) => {
                 return Came::Bytes(n);
             }
@@ -100,12 +101,12 @@ pub fn is_dash(file: &[u8]) -> bool
     file[0] == b'-'
 }
 
-// Standard input, or the file with this name; the descriptor, or -1.
-pub fn open(file: &[u8]) -> i32
-    ensures { is_dash_of file.now ≡ true → result ≡ pos 0 }
+// Standard input, or the file with this name; or nothing.
+pub fn open(sys: &System, file: &[u8]) -> Option<Source>
+    ensures { is_dash_of file.now ≡ true → result ≡ Some Source.Input }
 {
     if is_dash(file) {
-        return 0;
+        return Some(Source::Input);
     }
-    os::open_read(file)
+    sys.open(file)
 }

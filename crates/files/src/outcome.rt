@@ -4,6 +4,7 @@ ghost use Rattle.files.specs.Outcome.{has_failed_of, cuts_short_of, outcome_of, 
 
 use crate::input::Filled;
 use crate::output::{Written, write_all};
+use crate::system::{Sink, System};
 use crate::terminal::make_visible;
 
 // Nothing went wrong; the log could not be read to its end; after so many lines one is longer than the window, or its
@@ -71,12 +72,12 @@ impl Outcome {
 }
 
 // To a terminal as it is fit for one, to anything else every byte as it is.
-pub fn write_text(to: i32, text: &mut [u8]) -> Outcome
+pub fn write_text(sys: &System, to: Sink, text: &mut [u8]) -> Outcome
     ensures { Sent text.old text.new }
 {
-    if libc::isatty(to) == 1 {
+    if sys.is_terminal(to) {
         make_visible(text);
-        return Outcome::of_written(write_all(to, text));
+        return Outcome::of_written(write_all(sys, to, text));
     }
-    Outcome::of_written(write_all(to, text))
+    Outcome::of_written(write_all(sys, to, text))
 }

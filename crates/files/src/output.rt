@@ -1,9 +1,10 @@
-// Writing a text to a descriptor.
+// Writing a text.
 ghost use Rattle.std.specs.Prelude.{◌≤◌, length};
 ghost use Rattle.files.specs.Call.{NoMoreThan};
 ghost use Rattle.files.specs.Output.{WrittenOf};
 
 use crate::call::{Did, did_by};
+use crate::system::{Sink, System};
 
 // All of a text was written; or the reader of the pipe is gone; or a write failed.
 #[derive(Clone, Copy)]
@@ -14,16 +15,16 @@ pub enum Written {
 }
 
 // One call, of the text from a place on.
-fn write_some(fd: i32, text: &[u8], at: usize) -> Did
+fn write_some(sys: &System, to: Sink, text: &[u8], at: usize) -> Did
     requires { at ≤ length text.now }
     ensures { NoMoreThan at text.now result }
 {
-    let got = libc::write(fd, &text[at..]);
-    did_by(got, os::errno())
+    let got = sys.write(to, &text[at..]);
+    did_by(got, sys.errno())
 }
 
 // Writes all of a text, or stops where a call fails.
-pub fn write_all(fd: i32, text: &[u8]) -> Written
+pub fn write_all(sys: &System, to: Sink, text: &[u8]) -> Written
     ensures { WrittenOf text.now result }
 {
     let mut at = 0;
@@ -33,7 +34,7 @@ pub fn write_all(fd: i32, text: &[u8]) -> Written
             return Written::Failed;
         }
         turns += 1;
-        match write_some(fd, text, at) {
+        match write_some(sys, to, text, at) {
             Did::Bytes(n) => {
                 at = at + n;
             }

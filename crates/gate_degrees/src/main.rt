@@ -1,6 +1,9 @@
 // Every coordinate of 0 to 180 degrees and 0 to 60000 thousandths as a float, in two running sums of the bits. The
 // Rust's own conversions give the same sums (oracle/floats); what this writes is held to them in ../stdout.
+#![tactic(auto)]
+
 use coord::{RawLatitude, RawLongitude};
+use gate_say::{decimal, write};
 use raw_coord::{Compass, RawCoord};
 
 #[derive(Clone, Copy)]
@@ -56,23 +59,23 @@ fn all_degrees(row: u8, sign: Compass) -> Sums {
     sums
 }
 
-fn show(name: &[u8], row: u8, sign: Compass) {
+fn show(rt: HostRuntime, name: &[u8], row: u8, sign: Compass) {
     let sums = all_degrees(row, sign);
-    io::write_all(1, name);
-    io::write_all(1, b" ");
-    io::print_decimal(1, sums.a);
-    io::write_all(1, b" ");
-    io::print_decimal(1, sums.b);
-    io::write_all(1, b"\n");
+    write(rt, name);
+    write(rt, b" ");
+    decimal(rt, sums.a);
+    write(rt, b" ");
+    decimal(rt, sums.b);
+    write(rt, b"\n");
 }
 
-fn main() {
-    show(b"f32 N", 0, Compass::North);
-    show(b"f32 S", 0, Compass::South);
-    show(b"f32 E", 1, Compass::East);
-    show(b"f32 W", 2, Compass::West);
-    show(b"f64 N", 3, Compass::North);
-    show(b"f64 S", 3, Compass::South);
-    show(b"f64 E", 4, Compass::East);
-    show(b"f64 W", 5, Compass::West);
+fn main(rt: HostRuntime) {
+    show(rt, b"f32 N", 0, Compass::North);
+    show(rt, b"f32 S", 0, Compass::South);
+    show(rt, b"f32 E", 1, Compass::East);
+    show(rt, b"f32 W", 2, Compass::West);
+    show(rt, b"f64 N", 3, Compass::North);
+    show(rt, b"f64 S", 3, Compass::South);
+    show(rt, b"f64 E", 4, Compass::East);
+    show(rt, b"f64 W", 5, Compass::West);
 }

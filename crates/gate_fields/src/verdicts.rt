@@ -4,69 +4,69 @@ use date::{Date, DateRead};
 use gate_say as say;
 use raw_coord::{Compass, RawCoord};
 
-fn verdict(by_the_book: bool) {
+fn verdict(rt: HostRuntime, by_the_book: bool) {
     if by_the_book {
-        io::write_all(1, b"y\n");
+        say::write(rt, b"y\n");
     } else {
-        io::write_all(1, b"n\n");
+        say::write(rt, b"n\n");
     }
 }
 
-fn day(text: &[u8]) {
-    say::asked(b"day", text);
+fn day(rt: HostRuntime, text: &[u8]) {
+    say::asked(rt, b"day", text);
     match Date::parse(text) {
-        DateRead::Ok(date) => verdict(date.by_the_book()),
-        DateRead::Refused(no) => say::refused(no),
+        DateRead::Ok(date) => verdict(rt, date.by_the_book()),
+        DateRead::Refused(no) => say::refused(rt, no),
     }
 }
 
-fn latitude(text: &[u8]) {
-    say::asked(b"latitude by the book", text);
+fn latitude(rt: HostRuntime, text: &[u8]) {
+    say::asked(rt, b"latitude by the book", text);
     match RawLatitude::parse(text) {
-        LatitudeRead::Ok(lat) => verdict(lat.by_the_book()),
-        LatitudeRead::Refused(no) => say::refused(no),
+        LatitudeRead::Ok(lat) => verdict(rt, lat.by_the_book()),
+        LatitudeRead::Refused(no) => say::refused(rt, no),
     }
 }
 
-fn longitude(text: &[u8]) {
-    say::asked(b"longitude by the book", text);
+fn longitude(rt: HostRuntime, text: &[u8]) {
+    say::asked(rt, b"longitude by the book", text);
     match RawLongitude::parse(text) {
-        LongitudeRead::Ok(lon) => verdict(lon.by_the_book()),
-        LongitudeRead::Refused(no) => say::refused(no),
+        LongitudeRead::Ok(lon) => verdict(rt, lon.by_the_book()),
+        LongitudeRead::Refused(no) => say::refused(rt, no),
     }
 }
 
 // Days that a month has or lacks.
-pub fn days() {
-    day(b"290200");
-    day(b"290204");
-    day(b"290201");
-    day(b"290279");
-    day(b"290280");
-    day(b"300200");
-    day(b"310118");
-    day(b"300418");
-    day(b"310418");
-    day(b"310699");
-    day(b"310999");
-    day(b"311199");
-    day(b"311299");
-    day(b"000118");
-    day(b"010018");
+pub fn days(rt: HostRuntime) {
+    day(rt, b"290200");
+    day(rt, b"290204");
+    day(rt, b"290201");
+    day(rt, b"290279");
+    day(rt, b"290280");
+    day(rt, b"300200");
+    day(rt, b"310118");
+    day(rt, b"300418");
+    day(rt, b"310418");
+    day(rt, b"310699");
+    day(rt, b"310999");
+    day(rt, b"311199");
+    day(rt, b"311299");
+    day(rt, b"000118");
+    day(rt, b"010018");
 }
 
 // The poles, and the meridian at which east and west meet.
-pub fn limits() {
-    latitude(b"9000000N");
-    latitude(b"9000001N");
-    latitude(b"9030000S");
-    latitude(b"8959999S");
-    latitude(b"8960000S");
-    longitude(b"18000000E");
-    longitude(b"18000001W");
-    longitude(b"17959999W");
-    longitude(b"17960000W");
-    longitude(b"09059999E");
+pub fn limits(rt: HostRuntime) {
+    latitude(rt, b"9000000N");
+    latitude(rt, b"9000001N");
+    latitude(rt, b"9030000S");
+    latitude(rt, b"8959999S");
+    latitude(rt, b"8960000S");
+    longitude(rt, b"18000000E");
+    longitude(rt, b"18000001W");
+    longitude(rt, b"17959999W");
+    longitude(rt, b"17960000W");
+    longitude(rt, b"09059999E");
 }
 
 fn coord(degrees: u8, minute_thousandths: u16, sign: Compass) -> RawCoord {
@@ -78,12 +78,13 @@ fn coord(degrees: u8, minute_thousandths: u16, sign: Compass) -> RawCoord {
 }
 
 // Values past the limit, and years of three digits.
-pub fn by_hand() {
-    verdict(RawLatitude(coord(91, 0, Compass::North)).by_the_book());
-    verdict(RawLatitude(coord(90, 0, Compass::North)).by_the_book());
-    verdict(RawLongitude(coord(181, 0, Compass::West)).by_the_book());
-    verdict(RawLongitude(coord(91, 1, Compass::West)).by_the_book());
+pub fn by_hand(rt: HostRuntime) {
+    verdict(rt, RawLatitude(coord(91, 0, Compass::North)).by_the_book());
+    verdict(rt, RawLatitude(coord(90, 0, Compass::North)).by_the_book());
+    verdict(rt, RawLongitude(coord(181, 0, Compass::West)).by_the_book());
+    verdict(rt, RawLongitude(coord(91, 1, Compass::West)).by_the_book());
     verdict(
+        rt,
         (Date {
             day: 1,
             month: 1,
@@ -92,6 +93,7 @@ pub fn by_hand() {
         .by_the_book(),
     );
     verdict(
+        rt,
         (Date {
             day: 1,
             month: 13,
@@ -100,6 +102,7 @@ pub fn by_hand() {
         .by_the_book(),
     );
     verdict(
+        rt,
         (Date {
             day: 29,
             month: 2,

@@ -1,57 +1,60 @@
 // The peers' lesson: a fix whose two heights differ, by every path on which a height leaves the reader. Once two
 // readers took the two columns the other way round, and a published gain had to be struck out.
+#![tactic(auto)]
+
 use b_record::{BRead, BRecord};
 use fields_text::line::put_line;
+use gate_say::write;
 use held::tables::Tables;
 use listing_text::listing::print_listing;
 use print::printed::Printed;
 use record_print::print_record;
 use records::{Reading, Record};
 
-fn say(text: &[u8], n: usize) {
+fn say(rt: HostRuntime, text: &[u8], n: usize) {
     if n <= text.len() {
-        io::write_all(1, &text[0..n]);
+        write(rt, &text[0..n]);
     }
 }
 
-fn say_printed(answer: Printed, text: &[u8]) {
+fn say_printed(rt: HostRuntime, answer: Printed, text: &[u8]) {
     match answer {
-        Printed::Written(n) => say(text, n),
+        Printed::Written(n) => say(rt, text, n),
         Printed::Refused(_) => {
-            io::write_all(1, b"refused");
+            write(rt, b"refused");
         }
     }
 }
 
 // The record's own fields.
-fn record(line: &[u8]) {
-    io::write_all(1, b"record: pressure ");
+fn record(rt: HostRuntime, line: &[u8]) {
+    write(rt, b"record: pressure ");
     match BRecord::parse(line) {
         BRead::Ok(fix) => {
             let pressure = fix.pressure_alt;
             let gps = fix.gps_alt;
             let mut text = [0u8; 8];
             let n = pressure.put(&mut text, 0, 1);
-            say(&text, n);
-            io::write_all(1, b", GPS ");
+            say(rt, &text, n);
+            write(rt, b", GPS ");
             let m = gps.put(&mut text, 0, 1);
-            say(&text, m);
+            say(rt, &text, m);
         }
         BRead::Refused(_) => {
-            io::write_all(1, b"refused");
+            write(rt, b"refused");
         }
     }
-    io::write_all(1, b"\n");
+    write(rt, b"\n");
 }
 
-fn listing(line: &[u8]) {
+fn listing(rt: HostRuntime, line: &[u8]) {
     let mut text = [0u8; 64];
     let answer = print_listing(line, &mut text);
-    io::write_all(1, b"listing: ");
-    say_printed(answer, &text);
+    write(rt, b"listing: ");
+    say_printed(rt, answer, &text);
 }
 
-fn fields(line: &[u8]) {
+fn fields(rt: HostRuntime, line: &[u8]) {
     let mut text = [0u8; 256];
     let n = put_line(
         &mut text,
@@ -62,30 +65,30 @@ fn fields(line: &[u8]) {
         Tables::new(),
         b"",
     );
-    io::write_all(1, b"fields: ");
-    say(&text, n);
+    write(rt, b"fields: ");
+    say(rt, &text, n);
 }
 
 // What `print_record` writes. The line has a sign that a printed line has not, so its own bytes do not pass for that.
-fn printed(line: &[u8]) {
+fn printed(rt: HostRuntime, line: &[u8]) {
     let mut text = [0u8; 64];
-    io::write_all(1, b"printed: ");
+    write(rt, b"printed: ");
     match Record::parse_line(line) {
         Reading::Accepted(record) => {
             let answer = print_record(record, record.table(line), line, &mut text);
-            say_printed(answer, &text);
+            say_printed(rt, answer, &text);
         }
         Reading::Refused(_) => {
-            io::write_all(1, b"refused");
+            write(rt, b"refused");
         }
     }
-    io::write_all(1, b"\n");
+    write(rt, b"\n");
 }
 
-fn main() {
+fn main(rt: HostRuntime) {
     let line = b"B1015304712345N01102500EA+152301561";
-    record(line);
-    listing(line);
-    fields(line);
-    printed(line);
+    record(rt, line);
+    listing(rt, line);
+    fields(rt, line);
+    printed(rt, line);
 }

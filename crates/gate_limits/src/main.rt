@@ -1,21 +1,25 @@
 // The paper's program and the desk's on logs of 65,536 and of 65,537 bytes, on an empty one and on a folder: what each
 // writes, and then how it ended.
+#![tactic(auto)]
+
 ghost use Rattle.std.specs.Prelude.{◌≡◌, length};
 
+use files::input::open;
 use files::outcome::Outcome;
 use files::output::write_all;
+use files::system::{Sink, System};
 use paper::list;
 use products::Product;
 use stream::run;
 
-fn say(outcome: Outcome) {
+fn say(sys: &System, outcome: Outcome) {
     match outcome {
-        Outcome::Done => write_all(1, b"done\n"),
-        Outcome::NotRead => write_all(1, b"not read\n"),
-        Outcome::LongLine(_) => write_all(1, b"a long line\n"),
-        Outcome::NoRoom(_) => write_all(1, b"no room\n"),
-        Outcome::NotWritten => write_all(1, b"not written\n"),
-        Outcome::Closed => write_all(1, b"closed\n"),
+        Outcome::Done => write_all(sys, Sink::Output, b"done\n"),
+        Outcome::NotRead => write_all(sys, Sink::Output, b"not read\n"),
+        Outcome::LongLine(_) => write_all(sys, Sink::Output, b"a long line\n"),
+        Outcome::NoRoom(_) => write_all(sys, Sink::Output, b"no room\n"),
+        Outcome::NotWritten => write_all(sys, Sink::Output, b"not written\n"),
+        Outcome::Closed => write_all(sys, Sink::Output, b"closed\n"),
     };
 }
 
@@ -26,37 +30,55 @@ fn window() -> [u8; 4096]
 }
 
 // Through a window that is shorter than the logs, and into room for a few lines.
-fn stream(product: Product, file: &[u8]) {
+fn stream(sys: &System, product: Product, file: &[u8]) {
+    let Some(from) = open(sys, file) else {
+        say(sys, Outcome::NotRead);
+        return;
+    };
     let mut win = window();
     let mut out = window();
     let ended = run(
+        sys,
         product,
-        os::open_read(file),
+        &from,
         &mut win,
         b"",
-        1,
+        Sink::Output,
         &mut out[0..100],
     );
     let outcome = ended.outcome;
-    say(outcome);
+    say(sys, outcome);
 }
 
-fn both(file: &[u8]) {
-    write_all(1, b"paper ");
-    write_all(1, file);
-    write_all(1, b":\n");
-    let outcome = list(os::open_read(file), 1);
-    say(outcome);
-    write_all(1, b"desk:\n");
-    stream(Product::Listing, file);
+fn paper(sys: &System, file: &[u8]) {
+    let Some(from) = open(sys, file) else {
+        say(sys, Outcome::NotRead);
+        return;
+    };
+    let outcome = list(sys, &from, Sink::Output);
+    say(sys, outcome);
 }
 
-fn main() {
-    both(b"65536");
-    both(b"65537");
-    both(b"empty");
-    both(b".");
-    both(b"no such file");
-    write_all(1, b"fields, up to a line that has no room:\n");
-    stream(Product::Fields, b"65536");
+fn both(sys: &System, file: &[u8]) {
+    write_all(sys, Sink::Output, b"paper ");
+    write_all(sys, Sink::Output, file);
+    write_all(sys, Sink::Output, b":\n");
+    paper(sys, file);
+    write_all(sys, Sink::Output, b"desk:\n");
+    stream(sys, Product::Listing, file);
+}
+
+fn main(rt: HostRuntime) {
+    let sys = System::new(rt);
+    both(&sys, b"65536");
+    both(&sys, b"65537");
+    both(&sys, b"empty");
+    both(&sys, b".");
+    both(&sys, b"no such file");
+    write_all(
+        &sys,
+        Sink::Output,
+        b"fields, up to a line that has no room:\n",
+    );
+    stream(&sys, Product::Fields, b"65536");
 }

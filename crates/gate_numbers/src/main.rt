@@ -1,8 +1,11 @@
 // The readings of document 01 of numbers that are run and not proved, each with its answer number. Then every text of
 // up to three bytes, read as a number of each type, in two running sums of what came of it. The Rust's own `str::parse`
 // gives the same sums (oracle/numbers). What this writes is held to ../stdout.
+#![tactic(auto)]
+
 mod edges;
 
+use gate_say::{decimal, write};
 use print::number::{put_i8, put_i16, put_nat};
 use text::number::{I8Read, I16Read, U8Read, U16Read, read_i8, read_i16, read_u8, read_u16};
 
@@ -92,32 +95,32 @@ fn all(row: u8, width: usize, end: u64) -> Sums {
     Sums { a, b }
 }
 
-fn show(name: &[u8], row: u8, width: usize, end: u64) {
+fn show(rt: HostRuntime, name: &[u8], row: u8, width: usize, end: u64) {
     let sums = all(row, width, end);
-    io::write_all(1, name);
-    io::write_all(1, b" ");
-    io::print_decimal(1, width as u64);
-    io::write_all(1, b" ");
-    io::print_decimal(1, sums.a);
-    io::write_all(1, b" ");
-    io::print_decimal(1, sums.b);
-    io::write_all(1, b"\n");
+    write(rt, name);
+    write(rt, b" ");
+    decimal(rt, width as u64);
+    write(rt, b" ");
+    decimal(rt, sums.a);
+    write(rt, b" ");
+    decimal(rt, sums.b);
+    write(rt, b"\n");
 }
 
-fn widths(name: &[u8], row: u8) {
-    show(name, row, 0, 1);
-    show(name, row, 1, 256);
-    show(name, row, 2, 65536);
-    show(name, row, 3, 16777216);
+fn widths(rt: HostRuntime, name: &[u8], row: u8) {
+    show(rt, name, row, 0, 1);
+    show(rt, name, row, 1, 256);
+    show(rt, name, row, 2, 65536);
+    show(rt, name, row, 3, 16777216);
 }
 
-fn main() {
-    edges::unsigned();
-    edges::signed();
-    edges::long();
-    edges::printed();
-    widths(b"u8", 0);
-    widths(b"u16", 1);
-    widths(b"i8", 2);
-    widths(b"i16", 3);
+fn main(rt: HostRuntime) {
+    edges::unsigned(rt);
+    edges::signed(rt);
+    edges::long(rt);
+    edges::printed(rt);
+    widths(rt, b"u8", 0);
+    widths(rt, b"u16", 1);
+    widths(rt, b"i8", 2);
+    widths(rt, b"i16", 3);
 }

@@ -1,8 +1,11 @@
 // Finer positions of fixes, parts and tables built by hand, as no walk hands them out.
+#![tactic(auto)]
+
 use b_record::{BRecord, FixValid, GpsAlt, PressureAlt};
 use coord::{RawLatitude, RawLongitude};
 use extension::Extension;
 use field::Mnemonic;
+use gate_say::write;
 use held::tables::Tables;
 use held::{Held, Slot};
 use part::Part;
@@ -59,7 +62,7 @@ fn tables(slot: Slot, count: u8, a: u8, b: u8, c: u8, d: u8) -> Tables {
     Tables { i, j }
 }
 
-fn say(what: &[u8], fix: BRecord, tables: Tables) {
+fn say(rt: HostRuntime, what: &[u8], fix: BRecord, tables: Tables) {
     let mut text = [0u8; 64];
     let n = put_line(
         &mut text,
@@ -69,60 +72,85 @@ fn say(what: &[u8], fix: BRecord, tables: Tables) {
         Reading::Accepted(Record::B(fix)),
         tables,
     );
-    io::write_all(1, what);
-    io::write_all(1, b": ");
+    write(rt, what);
+    write(rt, b": ");
     if n <= 64 {
-        io::write_all(1, &text[0..n]);
+        write(rt, &text[0..n]);
     }
 }
 
 // Of the rest, from the line's start on.
-fn in_the_rest() {
+fn in_the_rest(rt: HostRuntime) {
     let there = fix(Compass::South, Compass::West, 0, 12);
-    say(b"the largest", there, tables(Slot::Set, 2, 36, 40, 41, 45));
-    let across = fix(Compass::West, Compass::North, 0, 12);
-    say(b"across", across, tables(Slot::Set, 2, 36, 36, 41, 42));
-    say(b"a sign", there, tables(Slot::Set, 2, 36, 40, 46, 47));
-    say(b"ends first", there, tables(Slot::Set, 2, 40, 36, 41, 45));
-    say(b"starts at 0", there, tables(Slot::Set, 2, 36, 40, 0, 45));
-    say(b"wide", there, tables(Slot::Set, 2, 36, 47, 41, 45));
     say(
+        rt,
+        b"the largest",
+        there,
+        tables(Slot::Set, 2, 36, 40, 41, 45),
+    );
+    let across = fix(Compass::West, Compass::North, 0, 12);
+    say(rt, b"across", across, tables(Slot::Set, 2, 36, 36, 41, 42));
+    say(rt, b"a sign", there, tables(Slot::Set, 2, 36, 40, 46, 47));
+    say(
+        rt,
+        b"ends first",
+        there,
+        tables(Slot::Set, 2, 40, 36, 41, 45),
+    );
+    say(
+        rt,
+        b"starts at 0",
+        there,
+        tables(Slot::Set, 2, 36, 40, 0, 45),
+    );
+    say(rt, b"wide", there, tables(Slot::Set, 2, 36, 47, 41, 45));
+    say(
+        rt,
         b"wide and past the rest",
         there,
         tables(Slot::Set, 2, 36, 255, 41, 45),
     );
     say(
+        rt,
         b"100 definitions",
         there,
         tables(Slot::Set, 100, 36, 40, 41, 45),
     );
     say(
+        rt,
         b"one definition",
         there,
         tables(Slot::Set, 1, 36, 40, 41, 45),
     );
-    say(b"spoiled", there, tables(Slot::Spoiled, 2, 36, 40, 41, 45));
-    say(b"never", there, tables(Slot::Never, 0, 0, 0, 0, 0));
+    say(
+        rt,
+        b"spoiled",
+        there,
+        tables(Slot::Spoiled, 2, 36, 40, 41, 45),
+    );
+    say(rt, b"never", there, tables(Slot::Never, 0, 0, 0, 0, 0));
 }
 
 // Of a rest that lies outside the line.
-fn outside() {
+fn outside(rt: HostRuntime) {
     let past = fix(Compass::North, Compass::East, 1, 12);
-    say(b"outside", past, tables(Slot::Set, 2, 36, 255, 0, 0));
+    say(rt, b"outside", past, tables(Slot::Set, 2, 36, 255, 0, 0));
     say(
+        rt,
         b"outside, one definition",
         past,
         tables(Slot::Set, 1, 36, 255, 0, 0),
     );
     let far = fix(Compass::North, Compass::East, 0xffff_ffff_ffff_ffff, 2);
     say(
+        rt,
         b"at the largest place",
         far,
         tables(Slot::Set, 2, 36, 40, 41, 45),
     );
 }
 
-fn main() {
-    in_the_rest();
-    outside();
+fn main(rt: HostRuntime) {
+    in_the_rest(rt);
+    outside(rt);
 }

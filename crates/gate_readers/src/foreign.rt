@@ -7,61 +7,61 @@ use h_record::{HRead, HRecord};
 use k_record::{KRead, KRecord};
 use table::{Table, Verdict};
 
-fn recorder(text: &[u8]) {
-    say::asked(b"recorder", text);
+fn recorder(rt: HostRuntime, text: &[u8]) {
+    say::asked(rt, b"recorder", text);
     match ARecord::parse(text) {
-        ARead::Ok(_) => say::accepted(text, text.len()),
-        ARead::Refused(no) => say::refused(no),
+        ARead::Ok(_) => say::accepted(rt, text, text.len()),
+        ARead::Refused(no) => say::refused(rt, no),
     }
 }
 
-fn header(text: &[u8]) {
-    say::asked(b"header", text);
+fn header(rt: HostRuntime, text: &[u8]) {
+    say::asked(rt, b"header", text);
     match HRecord::parse(text) {
-        HRead::Ok(_) => say::accepted(text, text.len()),
-        HRead::Refused(no) => say::refused(no),
+        HRead::Ok(_) => say::accepted(rt, text, text.len()),
+        HRead::Refused(no) => say::refused(rt, no),
     }
 }
 
-fn declaration(text: &[u8]) {
-    say::asked(b"declaration", text);
+fn declaration(rt: HostRuntime, text: &[u8]) {
+    say::asked(rt, b"declaration", text);
     match CRecordDeclaration::parse(text) {
-        DeclarationRead::Ok(_) => say::accepted(text, text.len()),
-        DeclarationRead::Refused(no) => say::refused(no),
+        DeclarationRead::Ok(_) => say::accepted(rt, text, text.len()),
+        DeclarationRead::Refused(no) => say::refused(rt, no),
     }
 }
 
-fn turnpoint(text: &[u8]) {
-    say::asked(b"turnpoint", text);
+fn turnpoint(rt: HostRuntime, text: &[u8]) {
+    say::asked(rt, b"turnpoint", text);
     match CRecordTurnpoint::parse(text) {
-        TurnpointRead::Ok(_) => say::accepted(text, text.len()),
-        TurnpointRead::Refused(no) => say::refused(no),
+        TurnpointRead::Ok(_) => say::accepted(rt, text, text.len()),
+        TurnpointRead::Refused(no) => say::refused(rt, no),
     }
 }
 
-fn data(text: &[u8]) {
-    say::asked(b"data", text);
+fn data(rt: HostRuntime, text: &[u8]) {
+    say::asked(rt, b"data", text);
     match KRecord::parse(text) {
-        KRead::Ok(_) => say::accepted(text, text.len()),
-        KRead::Refused(no) => say::refused(no),
+        KRead::Ok(_) => say::accepted(rt, text, text.len()),
+        KRead::Refused(no) => say::refused(rt, no),
     }
 }
 
-fn table(text: &[u8]) {
-    say::asked(b"table", text);
+fn table(rt: HostRuntime, text: &[u8]) {
+    say::asked(rt, b"table", text);
     let verdict = Table::parse(text).verdict;
     match verdict {
-        Verdict::Accepted => say::accepted(text, text.len()),
-        Verdict::Refused(no) => say::refused(no),
+        Verdict::Accepted => say::accepted(rt, text, text.len()),
+        Verdict::Refused(no) => say::refused(rt, no),
     }
 }
 
 // Lines whose first byte is not that of their reader.
-pub fn first_bytes() {
-    recorder(b"ZFLA123");
-    header(b"hFFTYFRTYPE:X");
-    declaration(b"\xff230718092044000000000204Foo task");
-    turnpoint(b"D5111359N00101899WLashamClubhouse");
-    table(b"K013638FXA");
-    data(b"k10153004512");
+pub fn first_bytes(rt: HostRuntime) {
+    recorder(rt, b"ZFLA123");
+    header(rt, b"hFFTYFRTYPE:X");
+    declaration(rt, b"\xff230718092044000000000204Foo task");
+    turnpoint(rt, b"D5111359N00101899WLashamClubhouse");
+    table(rt, b"K013638FXA");
+    data(rt, b"k10153004512");
 }

@@ -7,30 +7,30 @@ use gate_say as say;
 use l_record::{LRead, LRecord};
 
 // Lines whose first byte is not that of their reader; F lines are read whatever it is, as in the Rust.
-pub fn first_bytes() {
-    say::asked(b"station", b"d1ABCD");
+pub fn first_bytes(rt: HostRuntime) {
+    say::asked(rt, b"station", b"d1ABCD");
     match DRecord::parse(b"d1ABCD") {
-        DRead::Ok(_) => say::accepted(b"", 0),
-        DRead::Refused(no) => say::refused(no),
+        DRead::Ok(_) => say::accepted(rt, b"", 0),
+        DRead::Refused(no) => say::refused(rt, no),
     }
-    say::asked(b"event", b"e104030PEV");
+    say::asked(rt, b"event", b"e104030PEV");
     match ERecord::parse(b"e104030PEV") {
-        ERead::Ok(_) => say::accepted(b"", 0),
-        ERead::Refused(no) => say::refused(no),
+        ERead::Ok(_) => say::accepted(rt, b"", 0),
+        ERead::Refused(no) => say::refused(rt, no),
     }
-    say::asked(b"satellites", b"f105300");
+    say::asked(rt, b"satellites", b"f105300");
     match FRecord::parse(b"f105300") {
-        FRead::Ok(_) => say::accepted(b"", 0),
-        FRead::Refused(no) => say::refused(no),
+        FRead::Ok(_) => say::accepted(rt, b"", 0),
+        FRead::Refused(no) => say::refused(rt, no),
     }
-    say::asked(b"signature", b"");
+    say::asked(rt, b"signature", b"");
     match GRecord::parse(b"") {
-        GRead::Ok(_) => say::accepted(b"", 0),
-        GRead::Refused(no) => say::refused(no),
+        GRead::Ok(_) => say::accepted(rt, b"", 0),
+        GRead::Refused(no) => say::refused(rt, no),
     }
-    say::asked(b"remark", b"lPLT");
+    say::asked(rt, b"remark", b"lPLT");
     match LRecord::parse(b"lPLT") {
-        LRead::Ok(_) => say::accepted(b"", 0),
-        LRead::Refused(no) => say::refused(no),
+        LRead::Ok(_) => say::accepted(rt, b"", 0),
+        LRead::Refused(no) => say::refused(rt, no),
     }
 }

@@ -6,12 +6,12 @@ use gate_say as say;
 use k_record::{KRead, KRecord};
 use part::Found;
 
-fn found(answer: Found) {
+fn found(rt: HostRuntime, answer: Found) {
     match answer {
         Found::At(_) => {
-            io::write_all(1, b"0\n");
+            say::write(rt, b"0\n");
         }
-        Found::Refused(no) => say::refused(no),
+        Found::Refused(no) => say::refused(rt, no),
     }
 }
 
@@ -23,39 +23,39 @@ fn definition(start: u8, end: u8) -> Extension {
     }
 }
 
-fn value(start: u8, end: u8) {
+fn value(rt: HostRuntime, start: u8, end: u8) {
     let text = b"B1015304712345N01102500EA0152301561035";
     let def = definition(start, end);
     match BRecord::parse(text) {
         BRead::Ok(b) => {
-            say::asked(b"value", b.get_extension(def, text));
-            found(b.find_extension(def, text));
+            say::asked(rt, b"value", b.get_extension(def, text));
+            found(rt, b.find_extension(def, text));
         }
-        BRead::Refused(no) => say::refused(no),
+        BRead::Refused(no) => say::refused(rt, no),
     }
 }
 
-fn k_value(start: u8, end: u8) {
+fn k_value(rt: HostRuntime, start: u8, end: u8) {
     let text = b"K10153004512";
     let def = definition(start, end);
     match KRecord::parse(text) {
         KRead::Ok(k) => {
-            say::asked(b"value", k.get_extension(def, text));
-            found(k.find_extension(def, text));
+            say::asked(rt, b"value", k.get_extension(def, text));
+            found(rt, k.find_extension(def, text));
         }
-        KRead::Refused(no) => say::refused(no),
+        KRead::Refused(no) => say::refused(rt, no),
     }
 }
 
 // Values of extensions.
-pub fn values() {
-    value(36, 38);
-    value(35, 38);
-    value(36, 39);
-    value(38, 36);
-    value(37, 37);
-    k_value(8, 10);
-    k_value(7, 10);
-    k_value(8, 13);
-    k_value(10, 8);
+pub fn values(rt: HostRuntime) {
+    value(rt, 36, 38);
+    value(rt, 35, 38);
+    value(rt, 36, 39);
+    value(rt, 38, 36);
+    value(rt, 37, 37);
+    k_value(rt, 8, 10);
+    k_value(rt, 7, 10);
+    k_value(rt, 8, 13);
+    k_value(rt, 10, 8);
 }

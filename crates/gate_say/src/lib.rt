@@ -1,49 +1,61 @@
 // Writing a case and what came of it.
+#![tactic(auto)]
+
 use print::printed::Printed;
 use text::refusal::{MaybePlace, Refusal};
 
+// Some bytes to standard output. Where they cannot be written, what the program writes falls short.
+pub fn write(rt: HostRuntime, bytes: &[u8]) {
+    let _ = rt.write_all(bytes);
+}
+
+// A number.
+pub fn decimal(rt: HostRuntime, n: u64) {
+    let _ = print!(rt; "{n}");
+}
+
 // What is asked, and of which text.
-pub fn asked(what: &[u8], text: &[u8]) {
-    io::write_all(1, what);
-    io::write_all(1, b" `");
-    io::write_all(1, text);
-    io::write_all(1, b"` ");
+pub fn asked(rt: HostRuntime, what: &[u8], text: &[u8]) {
+    write(rt, what);
+    write(rt, b" `");
+    write(rt, text);
+    write(rt, b"` ");
 }
 
 // The refusal's number, and `@` with its place where it has one.
-pub fn refused(no: Refusal) {
-    io::print_decimal(1, no.number() as u64);
+pub fn refused(rt: HostRuntime, no: Refusal) {
+    decimal(rt, no.number() as u64);
     match no.place() {
         MaybePlace::At(place) => {
-            io::write_all(1, b"@");
-            io::print_decimal(1, place as u64);
+            write(rt, b"@");
+            decimal(rt, place as u64);
         }
         MaybePlace::Missing => {}
     }
-    io::write_all(1, b"\n");
+    write(rt, b"\n");
 }
 
 // An accepted number, whose text is the first n bytes of the buffer.
-pub fn accepted(buf: &[u8], n: usize) {
-    io::write_all(1, b"0 ");
+pub fn accepted(rt: HostRuntime, buf: &[u8], n: usize) {
+    write(rt, b"0 ");
     if n <= buf.len() {
-        io::write_all(1, &buf[0..n]);
+        write(rt, &buf[0..n]);
     }
-    io::write_all(1, b"\n");
+    write(rt, b"\n");
 }
 
 // What a printer answered, and the buffer as it then is.
-pub fn printed(p: Printed, buf: &[u8]) {
+pub fn printed(rt: HostRuntime, p: Printed, buf: &[u8]) {
     match p {
         Printed::Written(n) => {
-            io::write_all(1, b"wrote ");
-            io::print_decimal(1, n as u64);
+            write(rt, b"wrote ");
+            decimal(rt, n as u64);
         }
         Printed::Refused(no) => {
-            io::print_decimal(1, no.number() as u64);
+            decimal(rt, no.number() as u64);
         }
     }
-    io::write_all(1, b" `");
-    io::write_all(1, buf);
-    io::write_all(1, b"`\n");
+    write(rt, b" `");
+    write(rt, buf);
+    write(rt, b"`\n");
 }

@@ -1,4 +1,6 @@
 // Totals of sheets joined in order, file by file, and at last the block of all.
+#![tactic(auto)]
+
 ghost use Rattle.std.specs.Prelude.{◌≡◌, length};
 ghost use Rattle.total.specs.Total.{total_in, join_res};
 ghost use Rattle.joins.specs.Halves.{halves_in, not_whole, joined_on};
@@ -6,6 +8,7 @@ ghost use Rattle.joins.specs.Halves.{halves_in, not_whole, joined_on};
 use files::input::open;
 use files::output::write_all;
 use files::say::{fail, fail_at, refuse, write_block};
+use files::system::{Sink, System, buffer};
 use sheet_file::{Ended, read_file};
 use sheet_text::put_all;
 use total::{Total, Verdict};
@@ -25,9 +28,9 @@ fn window() -> [u8; 1048576]
 }
 
 // What is wrong with the sheet at a line.
-fn say_line(file: &[u8], line: u64, what: &[u8]) {
+fn say_line(sys: &System, file: &[u8], line: u64, what: &[u8]) {
     if 0 < line {
-        fail_at(file, line - 1, what);
+        fail_at(sys, file, line - 1, what);
     }
 }
 
@@ -43,7 +46,7 @@ fn without(before: Halves) -> Halves
 }
 
 // After the total of one sheet more, whose logs come behind those before.
-fn after_total(before: Halves, file: &[u8], next: Total) -> Halves
+fn after_total(sys: &System, before: Halves, file: &[u8], next: Total) -> Halves
     ensures { halves_in result ≡ joined_on (halves_in before) (join_res (total_in before.total) (total_in next)) }
 {
     let total = before.total;
@@ -58,35 +61,44 @@ fn after_total(before: Halves, file: &[u8], next: Total) -> Halves
             }
         }
         Verdict::TooLarge => {
-            refuse(file, b"21, with it a count or a log number passes 64 bits");
+            refuse(
+                sys,
+                file,
+                b"21, with it a count or a log number passes 64 bits",
+            );
             without(before)
         }
     }
 }
 
 // After the sheet of a file.
-fn after_file(before: Halves, file: &[u8], win: &mut [u8]) -> Halves {
-    let fd = open(file);
-    if fd < 0 {
-        fail(file, b"cannot be opened");
+fn after_file(sys: &System, before: Halves, file: &[u8], win: &mut [u8]) -> Halves {
+    let Some(from) = open(sys, file) else {
+        fail(sys, file, b"cannot be opened");
         return without(before);
-    }
-    let read = read_file(fd, win);
+    };
+    let read = read_file(sys, &from, win);
     let next = read.total;
     let ended = read.ended;
     match ended {
         Ended::Whole => {
-            libc::close(fd);
-            after_total(before, file, next)
+            sys.close(from);
+            after_total(sys, before, file, next)
         }
         Ended::Wrong(line) => {
-            libc::close(fd);
-            say_line(file, line, b" is not as `season` writes its last block");
+            sys.close(from);
+            say_line(
+                sys,
+                file,
+                line,
+                b" is not as `season` writes its last block",
+            );
             without(before)
         }
         Ended::TooLong(line) => {
-            libc::close(fd);
+            sys.close(from);
             say_line(
+                sys,
                 file,
                 line,
                 b" begins a text longer than a mebibyte, which no block is",
@@ -94,33 +106,33 @@ fn after_file(before: Halves, file: &[u8], win: &mut [u8]) -> Halves {
             without(before)
         }
         Ended::NotRead => {
-            fail(file, b"cannot be read to its end");
-            libc::close(fd);
+            fail(sys, file, b"cannot be read to its end");
+            sys.close(from);
             without(before)
         }
     }
 }
 
 // After the sheet that the argument i names.
-fn after_argument(before: Halves, i: usize, win: &mut [u8]) -> Halves {
-    let mut file = io::buffer();
-    let n = os::arg(i, &mut file);
-    if os::errno() != 0 {
-        fail(b"a file's name", b"cannot be taken");
+fn after_argument(sys: &System, before: Halves, i: usize, win: &mut [u8]) -> Halves {
+    let mut file = buffer();
+    let n = sys.arg(i, &mut file);
+    if sys.errno() != 0 {
+        fail(sys, b"a file's name", b"cannot be taken");
         return without(before);
     }
-    after_file(before, &file[0..n], win)
+    after_file(sys, before, &file[0..n], win)
 }
 
 // After the sheets that the words from `first` up to `words` name, in order.
-fn after_words(first: usize, words: usize, win: &mut [u8]) -> Halves {
+fn after_words(sys: &System, first: usize, words: usize, win: &mut [u8]) -> Halves {
     let mut halves = Halves {
         total: Total::new(),
         whole: true,
     };
     let mut i = first;
     while i < words {
-        halves = after_argument(halves, i, win);
+        halves = after_argument(sys, halves, i, win);
         i += 1;
     }
     halves
@@ -128,17 +140,17 @@ fn after_words(first: usize, words: usize, win: &mut [u8]) -> Halves {
 
 // The joined block of the sheets that the program's words name, from the one at `first` on, and where nothing went
 // wrong 0 on the descriptor `told`. Where a sheet is none there is no block.
-pub fn run_join(first: usize, told: i32) {
-    let words = os::arg_count();
+pub fn run_join(sys: &System, first: usize, told: Sink) {
+    let words = sys.arg_count();
     let mut win = window();
-    let halves = after_words(first, words, &mut win);
+    let halves = after_words(sys, first, words, &mut win);
     if !halves.whole {
         return;
     }
     let total = halves.total;
-    let mut out = io::buffer();
+    let mut out = buffer();
     let end = put_all(&mut out, 0, total);
-    if write_block(&mut out, end) {
-        write_all(told, b"0");
+    if write_block(sys, &mut out, end) {
+        write_all(sys, told, b"0");
     }
 }

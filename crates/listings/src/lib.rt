@@ -1,10 +1,13 @@
 // The listing of a file, the fields of its lines, or the finer positions of its fixes, as the desk's words ask for
 // them.
+#![tactic(auto)]
+
 ghost use Rattle.std.specs.Prelude.{◌≡◌, length};
 
 use files::input::{is_dash, open};
 use files::output::write_all;
 use files::say::{fail, say_short, tell};
+use files::system::{Sink, Source, System, buffer};
 use names::read_names;
 use products::Product;
 use stream::run;
@@ -30,95 +33,109 @@ fn name_buffer() -> [u8; 12288]
     [0; 12288]
 }
 
-fn run_on(product: Product, fd: i32, file: &[u8], names: &[u8], told: i32) {
+fn run_on(sys: &System, product: Product, from: &Source, file: &[u8], names: &[u8], told: Sink) {
     let mut win = window();
     let mut out = text_buffer();
-    let ended = run(product, fd, &mut win, names, 1, &mut out);
+    let ended = run(sys, product, from, &mut win, names, Sink::Output, &mut out);
     let outcome = ended.outcome;
-    say_short(outcome, ended.carried.at.number);
-    tell(told, file, outcome);
+    say_short(sys, outcome, ended.carried.at.number);
+    tell(sys, told, file, outcome);
 }
 
-fn run_file(product: Product, file: &[u8], names: &[u8], told: i32) {
-    let fd = open(file);
-    if fd < 0 {
-        fail(file, b"cannot be opened");
+fn run_file(sys: &System, product: Product, file: &[u8], names: &[u8], told: Sink) {
+    let Some(from) = open(sys, file) else {
+        fail(sys, file, b"cannot be opened");
         return;
-    }
+    };
     if is_dash(file) {
-        run_on(product, fd, b"standard input", names, told);
+        run_on(sys, product, &from, b"standard input", names, told);
         return;
     }
-    run_on(product, fd, file, names, told);
+    run_on(sys, product, &from, file, names, told);
 }
 
 // The file is the argument `at`.
-fn run_named(product: Product, at: usize, names: &[u8], told: i32) {
-    let mut file = io::buffer();
-    let n = os::arg(at, &mut file);
-    if os::errno() != 0 {
-        fail(b"the file's name", b"cannot be taken");
+fn run_named(sys: &System, product: Product, at: usize, names: &[u8], told: Sink) {
+    let mut file = buffer();
+    let n = sys.arg(at, &mut file);
+    if sys.errno() != 0 {
+        fail(sys, b"the file's name", b"cannot be taken");
         return;
     }
-    run_file(product, &file[0..n], names, told);
+    run_file(sys, product, &file[0..n], names, told);
 }
 
 // The listing of the file that the argument `at` names.
-pub fn run_list(at: usize, told: i32) {
-    let words = os::arg_count();
+pub fn run_list(sys: &System, at: usize, told: Sink) {
+    let words = sys.arg_count();
     if at < words {
         if words - at > 1 {
-            write_all(2, b"tokelivo: list takes one file\n");
+            write_all(sys, Sink::Errors, b"tokelivo: list takes one file\n");
             return;
         }
     }
-    run_named(Product::Listing, at, b"", told);
+    run_named(sys, Product::Listing, at, b"", told);
 }
 
 // The fields of that file, with the names that follow it.
-pub fn run_fields(at: usize, told: i32) {
+pub fn run_fields(sys: &System, at: usize, told: Sink) {
     let mut names = name_buffer();
-    let words = os::arg_count();
+    let words = sys.arg_count();
     if words <= at {
-        run_named(Product::Fields, at, b"", told);
+        run_named(sys, Product::Fields, at, b"", told);
         return;
     }
     let count = words - at - 1;
-    if read_names(at + 1, count, &mut names) {
-        run_named(Product::Fields, at, &names[0..3 * count], told);
+    if read_names(sys, at + 1, count, &mut names) {
+        run_named(sys, Product::Fields, at, &names[0..3 * count], told);
     }
 }
 
 // The fields of standard input, with the program's words as names.
-pub fn run_fields_of_input() {
+pub fn run_fields_of_input(sys: &System) {
     let mut names = name_buffer();
-    let words = os::arg_count();
+    let words = sys.arg_count();
     if words <= 1 {
-        run_on(Product::Fields, 0, b"standard input", b"", -1);
+        run_on(
+            sys,
+            Product::Fields,
+            &Source::Input,
+            b"standard input",
+            b"",
+            Sink::Nowhere,
+        );
         return;
     }
     let count = words - 1;
-    if read_names(1, count, &mut names) {
+    if read_names(sys, 1, count, &mut names) {
         run_on(
+            sys,
             Product::Fields,
-            0,
+            &Source::Input,
             b"standard input",
             &names[0..3 * count],
-            -1,
+            Sink::Nowhere,
         );
     }
 }
 
 // The finer positions of the fixes of that file; where no argument names one, of standard input.
-pub fn run_positions(at: usize, told: i32) {
-    let words = os::arg_count();
+pub fn run_positions(sys: &System, at: usize, told: Sink) {
+    let words = sys.arg_count();
     if words <= at {
-        run_on(Product::Positions, 0, b"standard input", b"", told);
+        run_on(
+            sys,
+            Product::Positions,
+            &Source::Input,
+            b"standard input",
+            b"",
+            told,
+        );
         return;
     }
     if words - at > 1 {
-        write_all(2, b"tokelivo: positions takes one file\n");
+        write_all(sys, Sink::Errors, b"tokelivo: positions takes one file\n");
         return;
     }
-    run_named(Product::Positions, at, b"", told);
+    run_named(sys, Product::Positions, at, b"", told);
 }

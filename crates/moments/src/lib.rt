@@ -1,4 +1,6 @@
 // The moments of a flight that are asked for: a log of at most 4 MiB is read, and the answers to all times are written.
+#![tactic(auto)]
+
 ghost use Rattle.std.specs.Prelude.{◌≡◌, ◌+◌, ◌≤◌, length};
 ghost use Rattle.text.specs.Word.{largest};
 ghost use Rattle.put.specs.Put.{Wrote};
@@ -9,6 +11,7 @@ use files::input::{Filled, is_dash, open, read_on};
 use files::outcome::{Outcome, write_text};
 use files::output::write_all;
 use files::say::{fail, refuse, tell};
+use files::system::{Sink, Source, System, buffer};
 use moment_text::{is_asked, put_moments};
 use put::put_bytes;
 
@@ -34,15 +37,15 @@ fn text_buffer() -> [u8; 262144]
 }
 
 // The time that argument i is, behind those before it; where it is none a sentence says so.
-fn read_time(i: usize, times: &mut [u8], at: usize) -> bool {
-    let mut word = io::buffer();
-    let n = os::arg(i, &mut word);
-    if os::errno() != 0 {
-        refuse(b"a word", b"not a time of six digits, as 101530");
+fn read_time(sys: &System, i: usize, times: &mut [u8], at: usize) -> bool {
+    let mut word = buffer();
+    let n = sys.arg(i, &mut word);
+    if sys.errno() != 0 {
+        refuse(sys, b"a word", b"not a time of six digits, as 101530");
         return false;
     }
     if !is_asked(&word[0..n]) {
-        refuse(&word[0..n], b"not a time of six digits, as 101530");
+        refuse(sys, &word[0..n], b"not a time of six digits, as 101530");
         return false;
     }
     put_bytes(times, at, &word[0..n]);
@@ -50,12 +53,12 @@ fn read_time(i: usize, times: &mut [u8], at: usize) -> bool {
 }
 
 // The times that so many arguments are, up to the first that is none.
-fn read_times(first: usize, count: usize, times: &mut [u8]) -> bool
+fn read_times(sys: &System, first: usize, count: usize, times: &mut [u8]) -> bool
     requires { (first + count ≤ largest) × (count ≤ 4096) }
 {
     let mut i = 0;
     while i < count {
-        if !read_time(first + i, times, 6 * i) {
+        if !read_time(sys, first + i, times, 6 * i) {
             return false;
         }
         i += 1;
@@ -77,85 +80,92 @@ fn put_answers(filled: Filled, log: &[u8], times: &[u8], text: &mut [u8]) -> usi
 }
 
 // The log was read to its end; where it was not, a sentence says why it has no answers.
-fn was_read(filled: Filled, file: &[u8]) -> bool
+fn was_read(sys: &System, filled: Filled, file: &[u8]) -> bool
     ensures { result ≡ was_read_of filled }
 {
     match filled {
         Filled::Ended(_) => true,
         Filled::Full => {
             refuse(
+                sys,
                 file,
                 b"longer than 4 MiB, the most that is held to go to a moment",
             );
             false
         }
         Filled::Failed => {
-            tell(-1, file, Outcome::NotRead);
+            tell(sys, Sink::Nowhere, file, Outcome::NotRead);
             false // an error is not the log's end
         }
     }
 }
 
-fn answer_on(fd: i32, file: &[u8], times: &[u8], told: i32) {
+fn answer_on(sys: &System, from: &Source, file: &[u8], times: &[u8], told: Sink) {
     let mut log = log_buffer();
     let mut text = text_buffer();
-    let filled = read_on(fd, &mut log, 0);
-    if !was_read(filled, file) {
+    let filled = read_on(sys, from, &mut log, 0);
+    if !was_read(sys, filled, file) {
         return;
     }
     let end = put_answers(filled, &log, times, &mut text);
     if text.len() < end {
-        refuse(file, b"the answers have no room");
+        refuse(sys, file, b"the answers have no room");
         return;
     }
-    tell(told, file, write_text(1, &mut text[0..end]));
+    tell(
+        sys,
+        told,
+        file,
+        write_text(sys, Sink::Output, &mut text[0..end]),
+    );
 }
 
-fn answer_file(file: &[u8], times: &[u8], told: i32) {
-    let fd = open(file);
-    if fd < 0 {
-        fail(file, b"cannot be opened");
+fn answer_file(sys: &System, file: &[u8], times: &[u8], told: Sink) {
+    let Some(from) = open(sys, file) else {
+        fail(sys, file, b"cannot be opened");
         return;
-    }
+    };
     if is_dash(file) {
-        answer_on(fd, b"standard input", times, told);
+        answer_on(sys, &from, b"standard input", times, told);
         return;
     }
-    answer_on(fd, file, times, told);
+    answer_on(sys, &from, file, times, told);
 }
 
 // The answers to the times that the program's words ask for, in the log of the file that the word at `at` names. All
 // words are looked at before anything is read or written.
-pub fn run_moment(at: usize, told: i32) {
-    let words = os::arg_count();
+pub fn run_moment(sys: &System, at: usize, told: Sink) {
+    let words = sys.arg_count();
     if words <= at {
         write_all(
-            2,
+            sys,
+            Sink::Errors,
             b"tokelivo: moment takes a file and times of six digits, as 101530\n",
         );
         return;
     }
     if words - at < 2 {
         write_all(
-            2,
+            sys,
+            Sink::Errors,
             b"tokelivo: no time is asked for; one is six digits, as 101530\n",
         );
         return;
     }
     let count = words - at - 1;
     if count > 4096 {
-        write_all(2, b"tokelivo: more than 4096 times\n");
+        write_all(sys, Sink::Errors, b"tokelivo: more than 4096 times\n");
         return;
     }
     let mut times = time_buffer();
-    if !read_times(at + 1, count, &mut times) {
+    if !read_times(sys, at + 1, count, &mut times) {
         return;
     }
-    let mut file = io::buffer();
-    let n = os::arg(at, &mut file);
-    if os::errno() != 0 {
-        fail(b"the file's name", b"cannot be taken");
+    let mut file = buffer();
+    let n = sys.arg(at, &mut file);
+    if sys.errno() != 0 {
+        fail(sys, b"the file's name", b"cannot be taken");
         return;
     }
-    answer_file(&file[0..n], &times[0..6 * count], told);
+    answer_file(sys, &file[0..n], &times[0..6 * count], told);
 }

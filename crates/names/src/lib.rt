@@ -1,18 +1,22 @@
 // The names that are asked for, from an argument on.
+#![tactic(auto)]
+
 ghost use Rattle.std.specs.Prelude.{◌≡◌, true, ◌≤◌, ◌<◌};
 ghost use Rattle.names.specs.Names.{NameRead};
 
 use files::output::write_all;
+use files::say::write_number;
+use files::system::{Sink, System};
 use put::put_bytes;
 
 // Name i, behind those before it.
-fn read_name(first: usize, i: usize, names: &mut [u8]) -> bool
+fn read_name(sys: &System, first: usize, i: usize, names: &mut [u8]) -> bool
     requires { (first ≤ 4) × (i < 4096) }
     ensures { NameRead result i names.old names.new }
 {
     let mut word = [0u8; 4];
-    let n = os::arg(first + i, &mut word);
-    if os::errno() != 0 {
+    let n = sys.arg(first + i, &mut word);
+    if sys.errno() != 0 {
         return false;
     }
     if n != 3 {
@@ -23,12 +27,12 @@ fn read_name(first: usize, i: usize, names: &mut [u8]) -> bool
 }
 
 // How many of so many arguments are names, up to the first that is none.
-fn count_names(first: usize, count: usize, names: &mut [u8]) -> usize
+fn count_names(sys: &System, first: usize, count: usize, names: &mut [u8]) -> usize
     requires { (first ≤ 4) × (count ≤ 4096) }
 {
     let mut i = 0;
     while i < count {
-        if !read_name(first, i, names) {
+        if !read_name(sys, first, i, names) {
             return i;
         }
         i += 1;
@@ -37,21 +41,21 @@ fn count_names(first: usize, count: usize, names: &mut [u8]) -> usize
 }
 
 // So many names; if they are too many or one is none, a sentence says so.
-pub fn read_names(first: usize, count: usize, names: &mut [u8]) -> bool
+pub fn read_names(sys: &System, first: usize, count: usize, names: &mut [u8]) -> bool
     ensures { result ≡ true → count ≤ 4096 }
 {
     if first > 4 {
         return false;
     }
     if count > 4096 {
-        write_all(2, b"tokelivo: more than 4096 names\n");
+        write_all(sys, Sink::Errors, b"tokelivo: more than 4096 names\n");
         return false;
     }
-    let good = count_names(first, count, names);
+    let good = count_names(sys, first, count, names);
     if good < count {
-        write_all(2, b"tokelivo: name ");
-        io::print_decimal(2, good as u64 + 1);
-        write_all(2, b" is not three bytes long, as ENL is\n");
+        write_all(sys, Sink::Errors, b"tokelivo: name ");
+        write_number(sys, Sink::Errors, good as u64 + 1);
+        write_all(sys, Sink::Errors, b" is not three bytes long, as ENL is\n");
         return false;
     }
     true

@@ -1,4 +1,6 @@
 // The paper's program: the listing of a log of at most 65,536 bytes.
+#![tactic(auto)]
+
 ghost use Rattle.std.specs.Prelude.{◌≡◌, length};
 ghost use Rattle.listing_text.specs.Paper.{paper_text};
 ghost use Rattle.files.specs.Input.{Within};
@@ -6,6 +8,7 @@ ghost use Rattle.paper.specs.Answer.{written_answer, Begins};
 
 use files::input::{Filled, read_on};
 use files::outcome::{Outcome, write_text};
+use files::system::{Sink, Source, System};
 use listing_text::paper::print_paper;
 use print::printed::Printed;
 
@@ -46,11 +49,11 @@ fn put_paper(log: &[u8], text: &mut [u8]) -> usize
 }
 
 // Reads a log, has its text made, and writes that.
-pub fn list(from: i32, to: i32) -> Outcome {
+pub fn list(sys: &System, from: &Source, to: Sink) -> Outcome {
     let mut log = log_buffer();
     let mut text = text_buffer();
-    let filled = read_on(from, &mut log, 0);
+    let filled = read_on(sys, from, &mut log, 0);
     let n = put_answer(filled, &log, &mut text);
-    let written = write_text(to, &mut text[0..n]);
+    let written = write_text(sys, to, &mut text[0..n]);
     Outcome::of_filled(filled, written)
 }

@@ -1,9 +1,12 @@
 // A season: one log after the other, each with its block, and at last the block of all.
+#![tactic(auto)]
+
 ghost use Rattle.std.specs.Prelude.{◌≡◌, length};
 
 use files::input::open;
 use files::output::write_all;
 use files::say::{fail, tell, write_block};
+use files::system::{Sink, System, buffer};
 use files::terminal::make_visible;
 use print::number::put_nat;
 use put::put_bytes;
@@ -28,11 +31,11 @@ fn window() -> [u8; 1048576]
 }
 
 // The log's number and its file, for whoever watches at a terminal.
-fn say_log(number: u64, file: &[u8]) {
-    if libc::isatty(2) != 1 {
+fn say_log(sys: &System, number: u64, file: &[u8]) {
+    if !sys.is_terminal(Sink::Errors) {
         return;
     }
-    let mut text = io::buffer();
+    let mut text = buffer();
     let at_number = put_bytes(&mut text, 0, b"log ");
     let at_colon = put_nat(&mut text, at_number, number, 1);
     let at_file = put_bytes(&mut text, at_colon, b": ");
@@ -40,16 +43,16 @@ fn say_log(number: u64, file: &[u8]) {
     make_visible(&mut text);
     let end = put_bytes(&mut text, at_end, b"\n");
     if end <= text.len() {
-        write_all(2, &text[0..end]);
+        write_all(sys, Sink::Errors, &text[0..end]);
     }
 }
 
 // After a log that was read to its end: its block is written, and the total has it.
-fn after_report(before: Season, number: u64, report: Report) -> Season {
+fn after_report(sys: &System, before: Season, number: u64, report: Report) -> Season {
     let total = before.total;
-    let mut out = io::buffer();
+    let mut out = buffer();
     let end = put_log(&mut out, 0, number, report);
-    if !write_block(&mut out, end) {
+    if !write_block(sys, &mut out, end) {
         return Season {
             total,
             whole: false,
@@ -65,7 +68,11 @@ fn after_report(before: Season, number: u64, report: Report) -> Season {
             writable: true,
         };
     }
-    write_all(2, b"tokelivo: the counts of all logs pass 64 bits\n");
+    write_all(
+        sys,
+        Sink::Errors,
+        b"tokelivo: the counts of all logs pass 64 bits\n",
+    );
     Season {
         total: sum,
         whole: false,
@@ -84,52 +91,51 @@ fn without(before: Season) -> Season {
 }
 
 // After the log of a file.
-fn after_file(before: Season, number: u64, file: &[u8], win: &mut [u8]) -> Season {
-    say_log(number, file);
-    let fd = open(file);
-    if fd < 0 {
-        fail(file, b"cannot be opened");
+fn after_file(sys: &System, before: Season, number: u64, file: &[u8], win: &mut [u8]) -> Season {
+    say_log(sys, number, file);
+    let Some(from) = open(sys, file) else {
+        fail(sys, file, b"cannot be opened");
         return without(before);
-    }
-    let read = report_file(fd, win);
+    };
+    let read = report_file(sys, &from, win);
     let sofar = read.sofar;
     let outcome = read.outcome;
     if outcome.has_failed() {
-        tell(-1, file, outcome);
-        libc::close(fd);
+        tell(sys, Sink::Nowhere, file, outcome);
+        sys.close(from);
         return without(before);
     }
-    libc::close(fd);
+    sys.close(from);
     let report = sofar.report;
-    after_report(before, number, report)
+    after_report(sys, before, number, report)
 }
 
 // After the log that the argument i names.
-fn after_argument(before: Season, number: u64, i: usize, win: &mut [u8]) -> Season {
-    let mut file = io::buffer();
-    let n = os::arg(i, &mut file);
-    if os::errno() != 0 {
-        fail(b"a file's name", b"cannot be taken");
+fn after_argument(sys: &System, before: Season, number: u64, i: usize, win: &mut [u8]) -> Season {
+    let mut file = buffer();
+    let n = sys.arg(i, &mut file);
+    if sys.errno() != 0 {
+        fail(sys, b"a file's name", b"cannot be taken");
         return without(before);
     }
-    after_file(before, number, &file[0..n], win)
+    after_file(sys, before, number, &file[0..n], win)
 }
 
 // The block of all logs, and where nothing went wrong 0 on the descriptor `told`.
-fn close_sheet(season: Season, told: i32) {
+fn close_sheet(sys: &System, season: Season, told: Sink) {
     if !season.whole {
         return;
     }
     let total = season.total;
-    let mut out = io::buffer();
+    let mut out = buffer();
     let end = put_all(&mut out, 0, total);
-    if write_block(&mut out, end) {
-        write_all(told, b"0");
+    if write_block(sys, &mut out, end) {
+        write_all(sys, told, b"0");
     }
 }
 
 // After the logs that the words from `first` up to `words` name, in order; no further once the sheet cannot be written.
-fn after_words(first: usize, words: usize, win: &mut [u8]) -> Season {
+fn after_words(sys: &System, first: usize, words: usize, win: &mut [u8]) -> Season {
     let mut season = Season {
         total: Total::new(),
         whole: true,
@@ -141,7 +147,7 @@ fn after_words(first: usize, words: usize, win: &mut [u8]) -> Season {
         if 0xffff_ffff_ffff_ffff <= number {
             return without(season);
         }
-        season = after_argument(season, number, i, win);
+        season = after_argument(sys, season, number, i, win);
         if !season.writable {
             return season;
         }
@@ -153,9 +159,9 @@ fn after_words(first: usize, words: usize, win: &mut [u8]) -> Season {
 
 // The sheet of the files that the program's words name, from the one at `first` on. Where one cannot be read there is
 // no block of all.
-pub fn run_season(first: usize, told: i32) {
-    let words = os::arg_count();
+pub fn run_season(sys: &System, first: usize, told: Sink) {
+    let words = sys.arg_count();
     let mut win = window();
-    let season = after_words(first, words, &mut win);
-    close_sheet(season, told);
+    let season = after_words(sys, first, words, &mut win);
+    close_sheet(sys, season, told);
 }

@@ -1,4 +1,6 @@
 // A sheet of any length read through a window of fixed size: the lines before its last block go by, and are counted.
+#![tactic(auto)]
+
 ghost use Rattle.std.specs.Prelude.{◌+◌, min, ◌≡◌};
 ghost use Rattle.text.specs.Word.{largest};
 ghost use Rattle.total.specs.Total.{total_in};
@@ -6,6 +8,7 @@ ghost use Rattle.files.specs.Input.{Within};
 ghost use Rattle.sheet_file.specs.File.{turn_in, stopped, last_turn, full_turn, turned, window_after, Told};
 
 use files::input::{Filled, read_on};
+use files::system::{Source, System};
 use sheet_read::{Verdict, count_ends, find_all, read_sheet};
 use total::Total;
 use window::{keep_rest, piece_end};
@@ -108,7 +111,7 @@ fn one_turn(filled: Filled, before: u64, win: &mut [u8]) -> Turn
 }
 
 // Reads the total of a sheet, a window at a time.
-pub fn read_file(fd: i32, win: &mut [u8]) -> FileSheet
+pub fn read_file(sys: &System, from: &Source, win: &mut [u8]) -> FileSheet
     ensures { Told (total_in result.total) result.ended }
 {
     let mut before: u64 = 0;
@@ -116,7 +119,7 @@ pub fn read_file(fd: i32, win: &mut [u8]) -> FileSheet
     let mut turns: u64 = 0;
     while turns < 0xffff_ffff_ffff_ffff {
         turns += 1;
-        let filled = read_on(fd, win, fill);
+        let filled = read_on(sys, from, win, fill);
         let t = one_turn(filled, before, win);
         before = t.before;
         fill = t.fill;

@@ -1,5 +1,6 @@
 // A log of any length taken into a report through a window of fixed size: it is read, cut behind the last line that is
 // whole, and these lines are taken; the rest waits for the next read.
+#![tactic(auto)]
 
 ghost use Rattle.std.specs.Prelude.{◌≡◌, false};
 ghost use Rattle.reported.specs.Reported.{so_far_in, nothing_yet};
@@ -8,6 +9,7 @@ ghost use Rattle.files.specs.Input.{Within};
 
 use files::input::{Filled, read_on};
 use files::outcome::Outcome;
+use files::system::{Source, System};
 use reported::{Sofar, report_on};
 use window::{keep_rest, piece_end};
 
@@ -92,7 +94,7 @@ fn one_turn(filled: Filled, sofar: Sofar, win: &mut [u8]) -> Turn
 }
 
 // Reads a log into a report, a window at a time.
-pub fn report_file(fd: i32, win: &mut [u8]) -> FileReport
+pub fn report_file(sys: &System, from: &Source, win: &mut [u8]) -> FileReport
     ensures { Goes nothing_yet (so_far_in result.sofar) false }
 {
     let mut sofar = Sofar::new();
@@ -100,7 +102,7 @@ pub fn report_file(fd: i32, win: &mut [u8]) -> FileReport
     let mut turns: u64 = 0;
     while turns < 0xffff_ffff_ffff_ffff {
         turns += 1;
-        let filled = read_on(fd, win, fill);
+        let filled = read_on(sys, from, win, fill);
         let t = one_turn(filled, sofar, win);
         sofar = t.sofar;
         fill = t.fill;

@@ -1,5 +1,7 @@
 // A log of any length through a window of fixed size: it is read, cut behind the last line that is whole, and written;
 // the rest waits for the next read.
+#![tactic(auto)]
+
 ghost use Rattle.std.specs.Prelude.{◌≡◌, false};
 ghost use Rattle.products.specs.Feed.{at_first_of};
 ghost use Rattle.stream.specs.Stream.{Streamed, Goes, Drains, Finished, Turned};
@@ -7,6 +9,7 @@ ghost use Rattle.files.specs.Input.{Within};
 
 use files::input::{Filled, read_on};
 use files::outcome::{Outcome, write_text};
+use files::system::{Sink, Source, System};
 use products::{Carried, Product, new, put_closing, put_lines};
 use window::{keep_rest, piece_end};
 
@@ -37,11 +40,12 @@ pub struct Ended {
 
 // Writes some lines, as many at a time as have room.
 fn write_lines(
+    sys: &System,
     product: Product,
     c: Carried,
     lines: &[u8],
     names: &[u8],
-    to: i32,
+    to: Sink,
     out: &mut [u8],
 ) -> Went
     ensures { Streamed c lines.now result }
@@ -59,7 +63,7 @@ fn write_lines(
                 outcome: Outcome::NoRoom(carried.at.number),
             };
         }
-        let outcome = write_text(to, &mut out[0..end]);
+        let outcome = write_text(sys, to, &mut out[0..end]);
         if outcome.has_failed() {
             return Went {
                 carried,
@@ -78,25 +82,33 @@ fn write_lines(
 }
 
 // What closes the text.
-fn write_closing(product: Product, c: Carried, to: i32, out: &mut [u8]) -> Outcome {
+fn write_closing(sys: &System, product: Product, c: Carried, to: Sink, out: &mut [u8]) -> Outcome {
     let end = put_closing(out, 0, product, c);
     if out.len() < end {
         return Outcome::NoRoom(c.at.number);
     }
-    write_text(to, &mut out[0..end])
+    write_text(sys, to, &mut out[0..end])
 }
 
 // The last piece, and what closes the text.
-fn finish(product: Product, c: Carried, lines: &[u8], names: &[u8], to: i32, out: &mut [u8]) -> Turn
+fn finish(
+    sys: &System,
+    product: Product,
+    c: Carried,
+    lines: &[u8],
+    names: &[u8],
+    to: Sink,
+    out: &mut [u8],
+) -> Turn
     ensures { Goes c result.carried result.more × Finished c lines.now result }
 {
-    let went = write_lines(product, c, lines, names, to, out);
+    let went = write_lines(sys, product, c, lines, names, to, out);
     let carried = went.carried;
     let outcome = went.outcome;
     if outcome.has_failed() {
         return stop(carried, outcome);
     }
-    let closed = write_closing(product, carried, to, out);
+    let closed = write_closing(sys, product, carried, to, out);
     stop(carried, closed)
 }
 
@@ -113,11 +125,12 @@ fn stop(carried: Carried, outcome: Outcome) -> Turn
 
 // A full window: its whole lines are written, and the rest goes to its front.
 fn drain(
+    sys: &System,
     product: Product,
     c: Carried,
     win: &mut [u8],
     names: &[u8],
-    to: i32,
+    to: Sink,
     out: &mut [u8],
 ) -> Turn
     ensures { Drains c win.old win.new result }
@@ -126,7 +139,7 @@ fn drain(
     if whole == 0 {
         return stop(c, Outcome::LongLine(c.at.number));
     }
-    let went = write_lines(product, c, &win[0..whole], names, to, out);
+    let went = write_lines(sys, product, c, &win[0..whole], names, to, out);
     let carried = went.carried;
     let outcome = went.outcome;
     if outcome.has_failed() {
@@ -143,31 +156,33 @@ fn drain(
 
 // By how far the window was filled: what can be written of it is.
 fn one_turn(
+    sys: &System,
     filled: Filled,
     product: Product,
     carried: Carried,
     win: &mut [u8],
     names: &[u8],
-    to: i32,
+    to: Sink,
     out: &mut [u8],
 ) -> Turn
     requires { Within filled win.old }
     ensures { Turned filled carried win.old win.new result }
 {
     match filled {
-        Filled::Ended(n) => finish(product, carried, &win[0..n], names, to, out),
-        Filled::Full => drain(product, carried, win, names, to, out),
+        Filled::Ended(n) => finish(sys, product, carried, &win[0..n], names, to, out),
+        Filled::Full => drain(sys, product, carried, win, names, to, out),
         Filled::Failed => stop(carried, Outcome::NotRead),
     }
 }
 
 // Reads a log and writes what is asked of it, a window at a time.
 pub fn run(
+    sys: &System,
     product: Product,
-    from: i32,
+    from: &Source,
     win: &mut [u8],
     names: &[u8],
-    to: i32,
+    to: Sink,
     out: &mut [u8],
 ) -> Ended
     ensures { Goes at_first_of result.carried false }
@@ -177,8 +192,8 @@ pub fn run(
     let mut turns: u64 = 0;
     while turns < 0xffff_ffff_ffff_ffff {
         turns += 1;
-        let filled = read_on(from, win, fill);
-        let t = one_turn(filled, product, carried, win, names, to, out);
+        let filled = read_on(sys, from, win, fill);
+        let t = one_turn(sys, filled, product, carried, win, names, to, out);
         carried = t.carried;
         fill = t.fill;
         if !t.more {

@@ -1,4 +1,6 @@
 // The sheet of a log's task, by a file, with the labels of another: the log is read whole.
+#![tactic(auto)]
+
 ghost use Rattle.std.specs.Prelude.{◌≡◌, length};
 ghost use Rattle.put.specs.Put.{Wrote};
 ghost use Rattle.files.specs.Input.{FilledBehind, Within};
@@ -7,6 +9,7 @@ ghost use Rattle.tasks.specs.Answer.{words_of, refusal_text, whole_in, sheet_in,
 use files::input::{Filled, is_dash, open, read_on};
 use files::output::write_all;
 use files::say::{fail, refuse, write_block};
+use files::system::{Sink, System, buffer};
 use print::number::put_nat;
 use put::{put_byte, put_bytes};
 use task::{TaskPrinted, TaskRefusal, print_task};
@@ -102,119 +105,127 @@ fn answer_of<'a>(
 }
 
 // A sheet goes to standard output, and where that went well 0 to the descriptor `told`; a refusal to standard error.
-fn write_printed(printed: TaskPrinted, sheet: &mut [u8], told: i32) {
+fn write_printed(sys: &System, printed: TaskPrinted, sheet: &mut [u8], told: Sink) {
     match printed {
         TaskPrinted::Written(n) => {
-            if write_block(sheet, n) {
-                write_all(told, b"0");
+            if write_block(sys, sheet, n) {
+                write_all(sys, told, b"0");
             }
         }
         TaskPrinted::Refused(no) => {
             let mut text = [0u8; 64];
             let end = put_refusal(&mut text, 0, no);
             if end <= text.len() {
-                write_all(2, &text[0..end]);
+                write_all(sys, Sink::Errors, &text[0..end]);
             }
         }
     }
 }
 
 // What went wrong in reading a file to its end.
-fn say_filled(filled: Filled, file: &[u8], too_long: &[u8]) {
+fn say_filled(sys: &System, filled: Filled, file: &[u8], too_long: &[u8]) {
     match filled {
         Filled::Ended(_) => {}
-        Filled::Full => refuse(file, too_long),
-        Filled::Failed => fail(file, b"cannot be read to its end"),
+        Filled::Full => refuse(sys, file, too_long),
+        Filled::Failed => fail(sys, file, b"cannot be read to its end"),
     }
 }
 
 // The bytes of a file; where there are more than have room, or they cannot be read, a sentence says so.
-fn fill(file: &[u8], buf: &mut [u8], too_long: &[u8]) -> Filled
+fn fill(sys: &System, file: &[u8], buf: &mut [u8], too_long: &[u8]) -> Filled
     ensures { FilledBehind 0 buf.old buf.new result }
 {
-    let fd = open(file);
-    if fd < 0 {
-        fail(file, b"cannot be opened");
+    let Some(from) = open(sys, file) else {
+        fail(sys, file, b"cannot be opened");
         return Filled::Failed;
-    }
-    let filled = read_on(fd, buf, 0);
+    };
+    let filled = read_on(sys, &from, buf, 0);
     if is_dash(file) {
-        say_filled(filled, b"standard input", too_long);
+        say_filled(sys, filled, b"standard input", too_long);
         return filled;
     }
-    say_filled(filled, file, too_long);
-    libc::close(fd);
+    say_filled(sys, filled, file, too_long);
+    sys.close(from);
     filled
 }
 
 // The same of labels; a file that has no name has none.
-fn fill_labels(file: &[u8], buf: &mut [u8]) -> Filled
+fn fill_labels(sys: &System, file: &[u8], buf: &mut [u8]) -> Filled
     ensures { FilledBehind 0 buf.old buf.new result }
 {
     if file.len() == 0 {
         return Filled::Ended(0);
     }
-    fill(file, buf, b"longer than 65536 bytes")
+    fill(sys, file, buf, b"longer than 65536 bytes")
 }
 
 // The sheet of a log, with the labels of another file.
-fn run_files(file: &[u8], label_file: &[u8], told: i32) {
+fn run_files(sys: &System, file: &[u8], label_file: &[u8], told: Sink) {
     let mut log = log_buffer();
     let mut labels = label_buffer();
     let mut sheet = sheet_buffer();
-    let log_filled = fill(file, &mut log, b"longer than 4194304 bytes");
-    let labels_filled = fill_labels(label_file, &mut labels);
+    let log_filled = fill(sys, file, &mut log, b"longer than 4194304 bytes");
+    let labels_filled = fill_labels(sys, label_file, &mut labels);
     match answer_of(log_filled, &log, labels_filled, &labels, &mut sheet) {
-        Answer::Printed(printed) => write_printed(printed, &mut sheet, told),
+        Answer::Printed(printed) => write_printed(sys, printed, &mut sheet, told),
         Answer::Nothing => {}
     }
 }
 
 // The labels are those of the file that the argument `at` names.
-fn run_labelled(file: &[u8], at: usize, told: i32) {
-    let mut label_file = io::buffer();
-    let n = os::arg(at, &mut label_file);
-    if os::errno() != 0 {
-        fail(b"the labels' name", b"cannot be taken");
+fn run_labelled(sys: &System, file: &[u8], at: usize, told: Sink) {
+    let mut label_file = buffer();
+    let n = sys.arg(at, &mut label_file);
+    if sys.errno() != 0 {
+        fail(sys, b"the labels' name", b"cannot be taken");
         return;
     }
     if n == 0 {
-        write_all(2, b"tokelivo: the labels' file has no name\n");
+        write_all(
+            sys,
+            Sink::Errors,
+            b"tokelivo: the labels' file has no name\n",
+        );
         return;
     }
     if is_dash(file) {
         if is_dash(&label_file[0..n]) {
             write_all(
-                2,
+                sys,
+                Sink::Errors,
                 b"tokelivo: log and labels cannot both come from standard input\n",
             );
             return;
         }
     }
-    run_files(file, &label_file[0..n], told);
+    run_files(sys, file, &label_file[0..n], told);
 }
 
 // The sheet of the log that the argument `at` names, with the labels of the file that the next one names, if there is
 // one; where there is neither, of standard input.
-pub fn run_task(at: usize, told: i32) {
-    let words = os::arg_count();
+pub fn run_task(sys: &System, at: usize, told: Sink) {
+    let words = sys.arg_count();
     if words <= at {
-        run_files(b"-", b"", told);
+        run_files(sys, b"-", b"", told);
         return;
     }
     if words - at > 2 {
-        write_all(2, b"tokelivo: task takes a log and its labels\n");
+        write_all(
+            sys,
+            Sink::Errors,
+            b"tokelivo: task takes a log and its labels\n",
+        );
         return;
     }
-    let mut file = io::buffer();
-    let n = os::arg(at, &mut file);
-    if os::errno() != 0 {
-        fail(b"the file's name", b"cannot be taken");
+    let mut file = buffer();
+    let n = sys.arg(at, &mut file);
+    if sys.errno() != 0 {
+        fail(sys, b"the file's name", b"cannot be taken");
         return;
     }
     if words - at == 1 {
-        run_files(&file[0..n], b"", told);
+        run_files(sys, &file[0..n], b"", told);
         return;
     }
-    run_labelled(&file[0..n], at + 1, told);
+    run_labelled(sys, &file[0..n], at + 1, told);
 }

@@ -1,5 +1,7 @@
 // A log watched while its bytes come: what whole lines have come are written at once, before the next read; a last line
 // that has no end yet waits for it, or for the end of the input.
+#![tactic(auto)]
+
 ghost use Rattle.std.specs.Prelude.{◌≡◌, false, ◌≤◌, length, take};
 ghost use Rattle.files.specs.Input.{Behind};
 ghost use Rattle.watch_text.specs.Feed.{view, at_first_of};
@@ -9,6 +11,7 @@ use files::input::{Came, is_dash, open, read_more};
 use files::outcome::{Outcome, write_text};
 use files::output::write_all;
 use files::say::{fail, say_short, tell};
+use files::system::{Sink, Source, System, buffer};
 use watch_text::{Watch, put_lines};
 use window::{keep_rest, piece_end};
 
@@ -38,7 +41,7 @@ struct Ended {
 }
 
 // Writes some lines, as many at a time as have room.
-fn write_lines(w: Watch, lines: &[u8], to: i32, out: &mut [u8]) -> Went
+fn write_lines(sys: &System, w: Watch, lines: &[u8], to: Sink, out: &mut [u8]) -> Went
     ensures { Written w lines.now result }
 {
     let mut watch = w;
@@ -54,7 +57,7 @@ fn write_lines(w: Watch, lines: &[u8], to: i32, out: &mut [u8]) -> Went
                 outcome: Outcome::NoRoom(watch.at.number),
             };
         }
-        let outcome = write_text(to, &mut out[0..end]);
+        let outcome = write_text(sys, to, &mut out[0..end]);
         if outcome.has_failed() {
             return Went {
                 watch,
@@ -84,22 +87,22 @@ fn stop(watch: Watch, outcome: Outcome) -> Turn
 }
 
 // After the last read.
-fn finish(w: Watch, lines: &[u8], to: i32, out: &mut [u8]) -> Turn
+fn finish(sys: &System, w: Watch, lines: &[u8], to: Sink, out: &mut [u8]) -> Turn
     ensures { Finished w lines.now result }
 {
-    let went = write_lines(w, lines, to, out);
+    let went = write_lines(sys, w, lines, to, out);
     let watch = went.watch;
     let outcome = went.outcome;
     stop(watch, outcome)
 }
 
 // The first n bytes of the window: their whole lines are written, and the others go to its front.
-fn move_on(w: Watch, win: &mut [u8], n: usize, to: i32, out: &mut [u8]) -> Turn
+fn move_on(sys: &System, w: Watch, win: &mut [u8], n: usize, to: Sink, out: &mut [u8]) -> Turn
     requires { n ≤ length win.old }
     ensures { Moves w win.old win.new (take n win.old) result }
 {
     let whole = piece_end(&win[0..n], false);
-    let went = write_lines(w, &win[0..whole], to, out);
+    let went = write_lines(sys, w, &win[0..whole], to, out);
     let watch = went.watch;
     let outcome = went.outcome;
     if outcome.has_failed() {
@@ -115,20 +118,28 @@ fn move_on(w: Watch, win: &mut [u8], n: usize, to: i32, out: &mut [u8]) -> Turn
 }
 
 // By what came behind the first bytes of the window.
-fn one_turn(came: Came, w: Watch, win: &mut [u8], fill: usize, to: i32, out: &mut [u8]) -> Turn
+fn one_turn(
+    sys: &System,
+    came: Came,
+    w: Watch,
+    win: &mut [u8],
+    fill: usize,
+    to: Sink,
+    out: &mut [u8],
+) -> Turn
     requires { Behind fill win.old came }
     ensures { Turned came w win.old fill win.new result }
 {
     match came {
-        Came::Bytes(n) => move_on(w, win, fill + n, to, out),
-        Came::Ended => finish(w, &win[0..fill], to, out),
+        Came::Bytes(n) => move_on(sys, w, win, fill + n, to, out),
+        Came::Ended => finish(sys, w, &win[0..fill], to, out),
         Came::NoRoom => stop(w, Outcome::LongLine(w.at.number)),
         Came::Failed => stop(w, Outcome::NotRead),
     }
 }
 
 // Reads a log as its bytes come, and writes where its summits rise.
-fn run(from: i32, win: &mut [u8], to: i32, out: &mut [u8]) -> Ended
+fn run(sys: &System, from: &Source, win: &mut [u8], to: Sink, out: &mut [u8]) -> Ended
     ensures { Goes at_first_of (view result.watch) false }
 {
     let mut watch = Watch::new();
@@ -136,8 +147,8 @@ fn run(from: i32, win: &mut [u8], to: i32, out: &mut [u8]) -> Ended
     let mut turns: u64 = 0;
     while turns < 0xffff_ffff_ffff_ffff {
         turns += 1;
-        let came = read_more(from, win, fill);
-        let t = one_turn(came, watch, win, fill, to, out);
+        let came = read_more(sys, from, win, fill);
+        let t = one_turn(sys, came, watch, win, fill, to, out);
         watch = t.watch;
         fill = t.fill;
         if !t.more {
@@ -165,44 +176,43 @@ fn text_buffer() -> [u8; 65536]
     [0; 65536]
 }
 
-fn watch_on(fd: i32, file: &[u8], told: i32) {
+fn watch_on(sys: &System, from: &Source, file: &[u8], told: Sink) {
     let mut win = window();
     let mut out = text_buffer();
-    let ended = run(fd, &mut win, 1, &mut out);
+    let ended = run(sys, from, &mut win, Sink::Output, &mut out);
     let outcome = ended.outcome;
-    say_short(outcome, ended.watch.at.number);
-    tell(told, file, outcome);
+    say_short(sys, outcome, ended.watch.at.number);
+    tell(sys, told, file, outcome);
 }
 
-fn watch_file(file: &[u8], told: i32) {
-    let fd = open(file);
-    if fd < 0 {
-        fail(file, b"cannot be opened");
+fn watch_file(sys: &System, file: &[u8], told: Sink) {
+    let Some(from) = open(sys, file) else {
+        fail(sys, file, b"cannot be opened");
         return;
-    }
+    };
     if is_dash(file) {
-        watch_on(fd, b"standard input", told);
+        watch_on(sys, &from, b"standard input", told);
         return;
     }
-    watch_on(fd, file, told);
+    watch_on(sys, &from, file, told);
 }
 
 // The log that the argument `at` names; where there is none, that of standard input.
-pub fn run_watch(at: usize, told: i32) {
-    let words = os::arg_count();
+pub fn run_watch(sys: &System, at: usize, told: Sink) {
+    let words = sys.arg_count();
     if words <= at {
-        watch_on(0, b"standard input", told);
+        watch_on(sys, &Source::Input, b"standard input", told);
         return;
     }
     if words - at > 1 {
-        write_all(2, b"tokelivo: watch takes one file\n");
+        write_all(sys, Sink::Errors, b"tokelivo: watch takes one file\n");
         return;
     }
-    let mut file = io::buffer();
-    let n = os::arg(at, &mut file);
-    if os::errno() != 0 {
-        fail(b"the file's name", b"cannot be taken");
+    let mut file = buffer();
+    let n = sys.arg(at, &mut file);
+    if sys.errno() != 0 {
+        fail(sys, b"the file's name", b"cannot be taken");
         return;
     }
-    watch_file(&file[0..n], told);
+    watch_file(sys, &file[0..n], told);
 }

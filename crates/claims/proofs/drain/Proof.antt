@@ -8,33 +8,26 @@ use Rattle.claims.proofs.drain.Statement.{statement}
 use Rattle.claims.proofs.drain.Tie as tie
 
 -- what leaves is inside
-inside : (c : tie.After-leaving) → c.leaving.result ≤ length (c.before.before.before.args.win.now)
-inside c = rw c.leaving.ensures (leaving_inside _)
+inside : (c : tie.After-leaving-n) → c.leaving-n.result ≤ length (c.args.win.now)
+inside c = rw c.leaving-n.ensures (leaving_inside _)
 
-no_room : tie.Need-returns
+no_room : tie.Need-returns-then-not-has_room
 unfolding full_turn take_front stopped
 no_room c =
-    let asked = c.before.before in
-    let left = asked.before.before.before in
-    let room = rw sub-zero at asked.has_room.ensures in
-    let made = second _ (so_false room c.before.if1.true) c.stop.ensures in (
-      rw (← left.leaving.ensures) made,
+    let room = rw sub-zero at c.has_room.ensures in
+    let made = second _ (so_false room c.if-not-has_room.true) c.stop.ensures in (
+      rw (← c.leaving-n.ensures) made,
       unmoved _ (ap (λ (t : Turn). t.more) c.stop.ensures),
     )
 
-kept : tie.Need-returns-2
+kept : tie.Need-returns
 unfolding full_turn window_after
 kept c =
-    let keep = c.before.before in
-    let on = keep.before.before in
-    let test = on.before.before.before in
-    let asked = test.before in
-    let left = asked.before.before.before in
-    let room = rw sub-zero at asked.has_room.ensures in
-    let taken = rw sub-zero at on.claim-on.ensures in (
-      rw (← left.leaving.ensures)
-          (front_taken _ _ _ (so_true room test.if1.false) taken keep.keep-rest.ensures.0),
-      first _ refl (rw (← left.leaving.ensures) keep.keep-rest.ensures.1),
+    let room = rw sub-zero at c.has_room.ensures in
+    let taken = rw sub-zero at c.claim_on-taken.ensures in (
+      rw (← c.leaving-n.ensures)
+          (front_taken _ _ _ (so_true room c.if-not-has_room.false) taken c.keep_rest-fill.ensures.0),
+      first _ refl (rw (← c.leaving-n.ensures) c.keep_rest-fill.ensures.1),
     )
 
 pub drain_spec : {M : Type 1} → statement M

@@ -5,19 +5,16 @@ use Rattle.claims.specs.Claims.{stopped, last_turn}
 use Rattle.claims.proofs.finish.Statement.{statement}
 use Rattle.claims.proofs.finish.Tie as tie
 
-no_room : tie.Need-returns
+no_room : tie.Need-returns-then-not-has_room
 unfolding last_turn
 no_room c =
-    let test = c.before in
-    second _ (so_false test.before.has_room.ensures test.if1.true) c.stop.ensures
+    second _ (so_false c.has_room.ensures c.if-not-has_room.true) c.stop.ensures
 
-all_taken : tie.Need-returns-2
+all_taken : tie.Need-returns
 unfolding last_turn
 all_taken c =
-    let on = c.before in
-    let test = on.before in
-    first _ (so_true test.before.has_room.ensures test.if1.false)
-    (c.stop2.ensures ∙ ap (λ (k : Sofar). stopped k Outcome.Done) on.claim-on.ensures)
+    first _ (so_true c.has_room.ensures c.if-not-has_room.false)
+    (c.stop-2.ensures ∙ ap (λ (k : Sofar). stopped k Outcome.Done) c.claim_on-taken.ensures)
 
 pub finish_spec : {M : Type 1} → statement M
 finish_spec =

@@ -3,14 +3,14 @@ use Rattle.claims.specs.Claims.{leaving}
 use Rattle.claims.proofs.leaving.Statement.{statement}
 use Rattle.claims.proofs.leaving.Tie as tie
 
-none_whole : tie.Need-returns
+none_whole : tie.Need-returns-then-whole-eq0
 unfolding leaving
-none_whole c = first _ (yes= (sym c.before.piece-end.ensures ∙ c.if1.true)) refl
+none_whole c = first _ (yes= (sym c.piece_end-whole.ensures ∙ c.if-whole-eq0.true)) refl
 
-some_whole : tie.Need-returns-2
+some_whole : tie.Need-returns
 unfolding leaving
 some_whole c =
-    let e = c.before.piece-end.ensures in second _ (no= (λ z. c.if1.false (e ∙ z))) e
+    let e = c.piece_end-whole.ensures in second _ (no= (λ z. c.if-whole-eq0.false (e ∙ z))) e
 
 pub leaving_spec : {M : Type 1} → statement M
 leaving_spec = tie.close (tie.spec (search rules) none_whole some_whole)

@@ -4,4 +4,4 @@ use Rattle.gate_degrees.proofs.bits32.Statement.{statement}
 use Rattle.gate_degrees.proofs.bits32.Tie as tie
 
 pub bits32_spec : {M : Type 1} → statement M
-bits32_spec = tie.close (tie.spec (λ c. no_nan _ c.if1.false) (search rules) (search rules))
+bits32_spec = tie.close (tie.spec (λ c. no_nan _ c.if-x.false) (search rules) (search rules))

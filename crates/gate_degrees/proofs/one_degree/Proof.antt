@@ -2,10 +2,10 @@ use Rattle.std.proofs.Common.{◌-◌, arith, rules}
 use Rattle.gate_degrees.proofs.one_degree.Statement.{statement}
 use Rattle.gate_degrees.proofs.one_degree.Tie as tie
 
-abbrev invariant-loop : tie.invariant-loop
+abbrev invariant-loop : tie.invariant-loop-t
 invariant-loop row degrees sign a₀ b₀ t₀ a b t = Unit
 
-abbrev decreases-loop : tie.decreases-loop
+abbrev decreases-loop : tie.decreases-loop-t
 decreases-loop row degrees sign a₀ b₀ t₀ a b t = 60001 - t
 
 pub one_degree_spec : {M : Type 1} → statement M

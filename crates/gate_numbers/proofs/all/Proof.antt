@@ -3,10 +3,10 @@ use Rattle.text.proofs.Prelude.{rules, arith}
 use Rattle.gate_numbers.proofs.all.Statement.{statement}
 use Rattle.gate_numbers.proofs.all.Tie as tie
 
-abbrev invariant-loop : tie.invariant-loop
+abbrev invariant-loop : tie.invariant-loop-n
 invariant-loop row width end a₀ b₀ n₀ a b n = Unit
 
-abbrev decreases-loop : tie.decreases-loop
+abbrev decreases-loop : tie.decreases-loop-n
 decreases-loop row width end a₀ b₀ n₀ a b n = end - n
 
 pub all_spec : {M : Type 1} → statement M

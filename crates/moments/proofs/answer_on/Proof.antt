@@ -4,10 +4,10 @@ use Rattle.moments.proofs.answer_on.Statement.{statement}
 use Rattle.moments.proofs.answer_on.Tie as tie
 
 -- what was read is inside
-inside : tie.Need-put-answers-requires
+inside : tie.Need-put_answers-end-requires
 inside c κs =
-    let read : tie.After-read-on = search rules in
-    ended_inside read.read-on.result read.read-on.ensures
+    let read : tie.After-read_on-filled = search rules in
+    ended_inside read.read_on-filled.result read.read_on-filled.ensures
 
 pub answer_on_spec : {M : Type 1} → statement M
 answer_on_spec =
@@ -17,4 +17,4 @@ answer_on_spec =
     (search rules)
     inside
     (search rules) (search rules) (search rules) (search rules) (search rules) (search rules) (search rules)
-    (search rules) (search rules))
+    (search rules))

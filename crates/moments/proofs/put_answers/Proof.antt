@@ -6,30 +6,30 @@ use Rattle.moments.proofs.put_answers.Statement.{statement}
 use Rattle.moments.proofs.put_answers.Tie as tie
 
 -- where the log ended is inside
-inside : tie.Need-slice-bounds-put-moments-end
+inside : tie.Need-slice_bounds-put_moments-end
 inside c =
-    let told = c.before.before in
-    let h = rw told.filled.given.1 at told.before.before.before.before.before.requires in
+    let told = c.before in
+    let h = rw told.in-Ended.is at told.before.before.before.before.requires in
     search rules
 
 -- a part from the start on
 from_start : (n : ℕ) → n - 0 ≡ n
 from_start n = omega arith
 
-ended : tie.Need-returns
+ended : tie.Need-returns-in-Ended
 unfolding answers_of
 ended c =
     let put = c.before.before in
-    let told = put.before.before.before.before in
-    rw told.filled.given.1 (rw (from_start _) at put.put-moments.ensures)
+    let told = put.before.before.before in
+    rw told.in-Ended.is (rw (from_start _) at put.put_moments.ensures)
 
-full : tie.Need-returns-2
+full : tie.Need-returns-in-Full
 unfolding answers_of
-full c = rw c.enum_told.given.1 (wrote_nothing _ _ (omega arith) (omega arith))
+full c = rw c.in-Full.is (wrote_nothing _ _ (omega arith) (omega arith))
 
-failed : tie.Need-returns-3
+failed : tie.Need-returns-in-Failed
 unfolding answers_of
-failed c = rw c.enum-told2.given.1 (wrote_nothing _ _ (omega arith) (omega arith))
+failed c = rw c.in-Failed.is (wrote_nothing _ _ (omega arith) (omega arith))
 
 pub put_answers_spec : {M : Type 1} → statement M
 put_answers_spec =

@@ -4,11 +4,11 @@ use Rattle.moments.proofs.read_times.Statement.{statement}
 use Rattle.moments.proofs.read_times.Tie as tie
 
 -- the bytes for the times stay as many as they are
-abbrev invariant-loop : tie.invariant-loop
-invariant-loop first count times₀ i₀ times i = length times ≡ length times₀
+abbrev invariant-loop : tie.invariant-loop-i
+invariant-loop sys first count times₀ i₀ times i = length times ≡ length times₀
 
-abbrev decreases-loop : tie.decreases-loop
-decreases-loop first count times₀ i₀ times i = count - i
+abbrev decreases-loop : tie.decreases-loop-i
+decreases-loop sys first count times₀ i₀ times i = count - i
 
 pub read_times_spec : {M : Type 1} → statement M
 read_times_spec =

@@ -9,8 +9,8 @@ use Rattle.names.proofs.read_name.Tie as tie
 put_there : (i : ℕ) {b t b' : List ℕ} {r : ℕ} → Wrote b (3 * i) t b' r → length t ≡ 3 → Named i b b'
 put_there i {t} w l = record { word = t; three = l; content = w.content }
 
-named : tie.Need-returns-3
-named c = put_there _ c.before.before.put-bytes.ensures (search rules)
+named : tie.Need-returns
+named c = put_there _ c.before.before.put_bytes.ensures (search rules)
 
 pub read_name_spec : {M : Type 1} → statement M
 read_name_spec =

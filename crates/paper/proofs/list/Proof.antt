@@ -4,10 +4,10 @@ use Rattle.paper.proofs.list.Statement.{statement}
 use Rattle.paper.proofs.list.Tie as tie
 
 -- what was read is inside
-inside : tie.Need-put-answer-requires
+inside : tie.Need-put_answer-n-requires
 inside c κs =
     let read = c.before.before.before in
-    (ended_inside read.read-on.result read.read-on.ensures, read.before.before.text-buffer.ensures)
+    (ended_inside read.read_on-filled.result read.read_on-filled.ensures, read.before.before.text_buffer-text.ensures)
 
 pub list_spec : {M : Type 1} → statement M
 list_spec =

@@ -5,10 +5,10 @@ use Rattle.seasons.proofs.after_words.Tie as tie
 
 -- the window stays as long as it is
 abbrev invariant-loop : tie.invariant-loop
-invariant-loop first words win₀ season₀ i₀ number₀ win season i number = length win ≡ length win₀
+invariant-loop sys first words win₀ season₀ i₀ number₀ win season i number = length win ≡ length win₀
 
 abbrev decreases-loop : tie.decreases-loop
-decreases-loop first words win₀ season₀ i₀ number₀ win season i number = words - i
+decreases-loop sys first words win₀ season₀ i₀ number₀ win season i number = words - i
 
 pub after_words_spec : {M : Type 1} → statement M
 after_words_spec =

@@ -6,33 +6,29 @@ use Rattle.sheet_file.proofs.one_turn.Statement.{statement}
 use Rattle.sheet_file.proofs.one_turn.Tie as tie
 
 -- where the sheet ended is inside
-inside : tie.Need-slice-bounds-finish-end
+inside : tie.Need-slice_bounds-finish-end
 inside c =
-    let told = c.before.before in
-    let h = rw told.filled.given.1 at told.before.before.before.requires in
+    let h = rw c.in-Ended.is at c.requires in
     search rules
 
-ended : tie.Need-returns
+ended : tie.Need-returns-in-Ended
 unfolding turned last_turn
 ended c =
-    let told = c.before.before.before.before in
     let e = rw sub-zero at c.finish.ensures in (
-      rw told.filled.given.1 e,
+      rw c.in-Ended.is e,
       unmoved _ (ap (λ (t : Onward). t.more) e ∙ last_is_last _ _),
     )
 
-full : tie.Need-returns-2
+full : tie.Need-returns-in-Full
 unfolding turned
 full c =
-    let pass = c.before.before in
-    let told = pass.before.before in
-    (rw told.enum_told.given.1 pass.pass.ensures.0, pass.pass.ensures.1)
+    (rw c.in-Full.is c.pass.ensures.0, c.pass.ensures.1)
 
-failed : tie.Need-returns-3
+failed : tie.Need-returns-in-Failed
 unfolding turned stopped
 failed c =
-    let e : tie.After-enum-told2 = search rules in (
-      rw e.enum-told2.given.1 (rw c.before.new.ensures at c.stop.ensures),
+    let e : tie.In-Failed = search rules in (
+      rw e.in-Failed.is (rw c.new.ensures at c.stop.ensures),
       unmoved _ (ap (λ (t : Onward). t.more) c.stop.ensures),
     )
 

@@ -6,33 +6,31 @@ use Rattle.sheet_file.proofs.Going.{Gone, Goes, at_start, goes_turned, goes_more
 use Rattle.sheet_file.proofs.read_file.Statement.{statement}
 use Rattle.sheet_file.proofs.read_file.Tie as tie
 
-abbrev invariant-loop : tie.invariant-loop
-invariant-loop fd win₀ before₀ fill₀ turns₀ win before fill turns = Gone before × (length win ≡ length win₀)
+abbrev invariant-loop : tie.invariant-loop-turns
+invariant-loop sys fd win₀ before₀ fill₀ turns₀ win before fill turns = Gone before × (length win ≡ length win₀)
 
-abbrev decreases-loop : tie.decreases-loop
-decreases-loop fd win₀ before₀ fill₀ turns₀ win before fill turns = largest - turns
+abbrev decreases-loop : tie.decreases-loop-turns
+decreases-loop sys fd win₀ before₀ fill₀ turns₀ win before fill turns = largest - turns
 
 -- one turn more
-turned : (c : tie.After-one-turn invariant-loop decreases-loop) → Goes (turn_in c.one-turn.result)
+turned : (c : tie.After-one_turn-t invariant-loop decreases-loop) → Goes (turn_in c.one_turn-t.result)
 turned c =
-    let read = c.before.before.before.before in
-    let loop = read.before.before.before.loop in
-    rw c.one-turn.ensures.0 (goes_turned loop.invariant.0 read.read-on.result read.read-on.new.1.0)
+    let loop = c.loop-turns in
+    rw c.one_turn-t.ensures.0 (goes_turned loop.invariant.0 c.read_on-filled.result c.read_on-filled.new.buf)
 
 -- the window stays as long as it was
 abbrev window : tie.Start invariant-loop decreases-loop → List ℕ
 window b = b.args.win.now
 
-same_window : (c : tie.After-one-turn invariant-loop decreases-loop) →
-    length c.one-turn.new.1.1.0 ≡ length (window (search rules))
+same_window : (c : tie.After-one_turn-t invariant-loop decreases-loop) →
+    length c.one_turn-t.new.win ≡ length (window (search rules))
 same_window c =
-    let read = c.before.before.before.before in
-    c.one-turn.auto.1.1.0 ∙ read.read-on.auto.1.0 ∙ read.before.before.before.loop.invariant.1
+    c.one_turn-t.auto.win ∙ c.read_on-filled.auto.buf ∙ c.loop-turns.invariant.1
 
-more : tie.Need-loop-preserved invariant-loop decreases-loop
+more : tie.Need-loop-turns-preserved invariant-loop decreases-loop
 more c =
-    let turn : tie.After-one-turn invariant-loop decreases-loop = search rules in
-    ((turned turn).gone (goes_more c.if1.false), same_window turn)
+    let turn : tie.After-one_turn-t invariant-loop decreases-loop = search rules in
+    ((turned turn).gone (goes_more c.if-not-t.false), same_window turn)
 
 pub read_file_spec : {M : Type 1} → statement M
 read_file_spec =
@@ -42,9 +40,9 @@ read_file_spec =
     decreases-loop
     (λ c. (at_start, refl))
     (search rules) (search rules)
-    (λ c κs. let read = c.before.before.before in ended_inside read.read-on.result read.read-on.ensures)
-    (λ c. let turn : tie.After-one-turn invariant-loop decreases-loop = search rules in same_window turn)
-    (λ c. let turn : tie.After-one-turn invariant-loop decreases-loop = search rules in (turned turn).told)
+    (λ c κs. ended_inside c.read_on-filled.result c.read_on-filled.ensures)
+    (λ c. let turn : tie.After-one_turn-t invariant-loop decreases-loop = search rules in same_window turn)
+    (λ c. let turn : tie.After-one_turn-t invariant-loop decreases-loop = search rules in (turned turn).told)
     (search rules)
     more
     (search rules) (search rules)

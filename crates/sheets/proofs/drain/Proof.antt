@@ -9,43 +9,43 @@ use Rattle.sheets.proofs.drain.Statement.{statement}
 use Rattle.sheets.proofs.drain.Tie as tie
 
 -- the whole lines are inside
-inside : (c : tie.After-piece-end) → c.piece-end.result ≤ length (c.before.before.before.args.win.now)
+inside : (c : tie.After-piece_end-whole) → c.piece_end-whole.result ≤ length (c.before.before.args.win.now)
 unfolding piece_end_of
-inside c = rw c.piece-end.ensures (whole_le _)
+inside c = rw c.piece_end-whole.ensures (whole_le _)
 
-long_line : tie.Need-returns
+long_line : tie.Need-returns-then-whole-eq0
 unfolding full_turn stopped
 long_line c =
     let test = c.before in
-    let none = yes= (sym test.before.piece-end.ensures ∙ test.if1.true) in
+    let none = yes= (sym test.before.piece_end-whole.ensures ∙ test.if-whole-eq0.true) in
     (first _ none c.stop.ensures, unmoved _ (ap (λ (t : Onward). t.more) c.stop.ensures))
 
-no_room : tie.Need-returns-2
+no_room : tie.Need-returns-then-not-has_room
 unfolding take_whole stopped
 no_room c =
     let asked = c.before.before in
-    let test = asked.before.before.before in
+    let test = asked.before.before in
     let end = test.before in
     let room = rw sub-zero at asked.has_room.ensures in
-    let made = second _ (so_false room c.before.if2.true) c.stop2.ensures in (
-      whole_lines _ _ end.piece-end.ensures test.if1.false made,
-      unmoved _ (ap (λ (t : Onward). t.more) c.stop2.ensures),
+    let made = second _ (so_false room c.before.if-not-has_room.true) c.stop-then-not-has_room.ensures in (
+      whole_lines _ _ end.piece_end-whole.ensures test.if-whole-eq0.false made,
+      unmoved _ (ap (λ (t : Onward). t.more) c.stop-then-not-has_room.ensures),
     )
 
-kept : tie.Need-returns-3
+kept : tie.Need-returns
 unfolding take_whole window_after
 kept c =
     let keep = c.before.before in
     let report = keep.before.before in
-    let test2 = report.before.before.before in
+    let test2 = report.before.before in
     let asked = test2.before in
-    let test = asked.before.before.before in
+    let test = asked.before.before in
     let end = test.before in
     let room = rw sub-zero at asked.has_room.ensures in
-    let taken = rw sub-zero at report.report-on.ensures in (
-      whole_lines _ _ end.piece-end.ensures test.if1.false
-          (first _ (so_true room test2.if2.false) (rw (taken, keep.keep-rest.ensures.0))),
-      first _ refl (rw (← end.piece-end.ensures) keep.keep-rest.ensures.1),
+    let taken = rw sub-zero at report.report_on-taken.ensures in (
+      whole_lines _ _ end.piece_end-whole.ensures test.if-whole-eq0.false
+          (first _ (so_true room test2.if-not-has_room.false) (rw (taken, keep.keep_rest-fill.ensures.0))),
+      first _ refl (rw (← end.piece_end-whole.ensures) keep.keep_rest-fill.ensures.1),
     )
 
 pub drain_spec : {M : Type 1} → statement M
@@ -55,10 +55,10 @@ drain_spec =
     (search rules) (search rules) (search rules)
     long_line
     (search rules) (search rules)
-    (λ c. let h = inside c.before.before in search rules)
+    (λ c. let h = inside c.before in search rules)
     (search rules) (search rules) (search rules)
     no_room
     (search rules) (search rules)
-    (λ c. let h = inside c.before.before.before.before.before.before in search rules)
+    (λ c. let h = inside c.before.before.before.before in search rules)
     (search rules) (search rules) (search rules)
     kept)

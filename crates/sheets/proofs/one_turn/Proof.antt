@@ -6,32 +6,31 @@ use Rattle.sheets.proofs.one_turn.Statement.{statement}
 use Rattle.sheets.proofs.one_turn.Tie as tie
 
 -- where the log ended is inside
-inside : tie.Need-slice-bounds-finish-end
+inside : tie.Need-slice_bounds-finish-end
 inside c =
-    let told = c.before.before in
-    let h = rw told.filled.given.1 at told.before.before.before.requires in
+    let h = rw c.in-Ended.is at c.before.before.requires in
     search rules
 
-ended : tie.Need-returns
+ended : tie.Need-returns-in-Ended
 unfolding turned
 ended c =
-    let told = c.before.before.before.before in
+    let told = c.before.before in
     let e = rw sub-zero at c.finish.ensures in (
-      rw told.filled.given.1 e,
+      rw told.in-Ended.is e,
       unmoved _ (ap (λ (t : Onward). t.more) e ∙ last_is_last _ _),
     )
 
-full : tie.Need-returns-2
+full : tie.Need-returns-in-Full
 unfolding turned
 full c =
     let drain = c.before.before in
     let told = drain.before.before in
-    (rw told.enum_told.given.1 drain.drain.ensures.0, drain.drain.ensures.1)
+    (rw told.in-Full.is drain.drain.ensures.0, drain.drain.ensures.1)
 
-failed : tie.Need-returns-3
+failed : tie.Need-returns-in-Failed
 unfolding turned stopped
 failed c = (
-  rw c.before.enum-told2.given.1 c.stop.ensures,
+  rw c.before.in-Failed.is c.stop.ensures,
   unmoved _ (ap (λ (t : Onward). t.more) c.stop.ensures),
 )
 

@@ -5,31 +5,25 @@ use Rattle.stream.proofs.Streaming.{goes_nowhere, goes_last, drained}
 use Rattle.stream.proofs.drain.Statement.{statement}
 use Rattle.stream.proofs.drain.Tie as tie
 
-long_line : tie.Need-returns
+long_line : tie.Need-returns-then-whole-eq0
 long_line c = rw c.stop.ensures (goes_nowhere, λ h. never h refl)
 
-inside : tie.Need-slice-bounds-write-lines-end
+inside : tie.Need-slice_bounds-write_lines-end
 unfolding piece_end_of
 inside c =
-    let end = c.before.before in
-    let h = whole_le (end.before.before.before.before.before.args.win.now) in
-    let e = end.piece-end.ensures in
+    let h = whole_le (c.args.win.now) in
+    let e = c.piece_end-whole.ensures in
     search rules
 
-not_written : tie.Need-returns-2
+not_written : tie.Need-returns-then-has_failed
 not_written c =
-    let write = c.before.before.before.before.before.before in
-    rw c.stop2.ensures (goes_last write.write-lines.ensures, λ h. never h refl)
+    rw c.stop-then-has_failed.ensures (goes_last c.write_lines-went.ensures, λ h. never h refl)
 
-kept : tie.Need-returns-3
+kept : tie.Need-returns
 kept c =
-    let keep = c.before.before in
-    let test = keep.before.before in
-    let asked = test.before in
-    let write = asked.before.before.before.before in
-    let end = write.before.before.before.before.before.piece-end.ensures in
-    let well = sym asked.has-failed.ensures ∙ test.if2.false in
-    drained end write.write-lines.ensures well keep.keep-rest.ensures.0 keep.keep-rest.ensures.1
+    let end = c.piece_end-whole.ensures in
+    let well = sym c.has_failed.ensures ∙ c.if-has_failed.false in
+    drained end c.write_lines-went.ensures well c.keep_rest-fill.ensures.0 c.keep_rest-fill.ensures.1
 
 pub drain_spec : {M : Type 1} → statement M
 drain_spec =

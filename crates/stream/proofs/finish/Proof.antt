@@ -3,19 +3,14 @@ use Rattle.stream.proofs.Streaming.{finished}
 use Rattle.stream.proofs.finish.Statement.{statement}
 use Rattle.stream.proofs.finish.Tie as tie
 
-cut_short : tie.Need-returns
+cut_short : tie.Need-returns-then-has_failed
 cut_short c =
-    let asked = c.before.before in
-    let write = asked.before.before.before.before in
-    finished write.write-lines.ensures (λ d. d) c.stop.ensures
+    finished c.write_lines-went.ensures (λ d. d) c.stop.ensures
 
-closed : tie.Need-returns-2
+closed : tie.Need-returns
 closed c =
-    let test = c.before.before.before.before.before in
-    let asked = test.before in
-    let write = asked.before.before.before.before in
-    let well = sym asked.has-failed.ensures ∙ test.if1.false in
-    finished write.write-lines.ensures (λ d. well) c.stop2.ensures
+    let well = sym c.has_failed.ensures ∙ c.if-has_failed.false in
+    finished c.write_lines-went.ensures (λ d. well) c.stop-2.ensures
 
 pub finish_spec : {M : Type 1} → statement M
 finish_spec =

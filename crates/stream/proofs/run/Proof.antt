@@ -7,22 +7,21 @@ use Rattle.stream.proofs.Streaming.{goes_nowhere, goes_last_of, goes_more, goes_
 use Rattle.stream.proofs.run.Statement.{statement}
 use Rattle.stream.proofs.run.Tie as tie
 
-abbrev invariant-loop : tie.invariant-loop
-invariant-loop product from win₀ names to out₀ carried₀ fill₀ turns₀ win out carried fill turns =
+abbrev invariant-loop : tie.invariant-loop-turns
+invariant-loop sys product from win₀ names to out₀ carried₀ fill₀ turns₀ win out carried fill turns =
     Goes at_first_of carried true × (length win ≡ length win₀) × (length out ≡ length out₀)
 
-abbrev decreases-loop : tie.decreases-loop
-decreases-loop product from win₀ names to out₀ carried₀ fill₀ turns₀ win out carried fill turns = largest - turns
+abbrev decreases-loop : tie.decreases-loop-turns
+decreases-loop sys product from win₀ names to out₀ carried₀ fill₀ turns₀ win out carried fill turns = largest - turns
 
 -- one turn more
-turned : (c : tie.After-one-turn invariant-loop decreases-loop) →
-    Goes at_first_of c.one-turn.result.carried c.one-turn.result.more
+turned : (c : tie.After-one_turn-t invariant-loop decreases-loop) →
+    Goes at_first_of c.one_turn-t.result.carried c.one_turn-t.result.more
 turned c =
-    let read = c.before.before.before.before.before in
-    let loop = read.before.before.before.loop in
+    let loop = c.loop-turns in
     goes_on loop.invariant.0
-    (goes_turned read.read-on.result loop.carried read.read-on.new.1.0 c.one-turn.new.1.1.1.0
-    c.one-turn.result c.one-turn.ensures)
+    (goes_turned c.read_on-filled.result loop.carried c.read_on-filled.new.buf c.one_turn-t.new.win
+    c.one_turn-t.result c.one_turn-t.ensures)
 
 -- the window and the bytes for texts stay as long as they were
 abbrev window : tie.Start invariant-loop decreases-loop → List ℕ
@@ -31,22 +30,20 @@ window b = b.args.win.now
 abbrev text : tie.Start invariant-loop decreases-loop → List ℕ
 text b = b.args.out.now
 
-same_window : (c : tie.After-one-turn invariant-loop decreases-loop) →
-    length c.one-turn.new.1.1.1.0 ≡ length (window (search rules))
+same_window : (c : tie.After-one_turn-t invariant-loop decreases-loop) →
+    length c.one_turn-t.new.win ≡ length (window (search rules))
 same_window c =
-    let read = c.before.before.before.before.before in
-    c.one-turn.auto.1.1.1.0 ∙ read.read-on.auto.1.0 ∙ read.before.before.before.loop.invariant.1
+    c.one_turn-t.auto.win ∙ c.read_on-filled.auto.buf ∙ c.loop-turns.invariant.1
 
-same_text : (c : tie.After-one-turn invariant-loop decreases-loop) →
-    length c.one-turn.new.1.1.1.1.1.1.0 ≡ length (text (search rules))
+same_text : (c : tie.After-one_turn-t invariant-loop decreases-loop) →
+    length c.one_turn-t.new.out ≡ length (text (search rules))
 same_text c =
-    let read = c.before.before.before.before.before in
-    c.one-turn.auto.1.1.1.1.1.1.0 ∙ read.before.before.before.loop.invariant.2
+    c.one_turn-t.auto.out ∙ c.loop-turns.invariant.2
 
-more : tie.Need-loop-preserved invariant-loop decreases-loop
+more : tie.Need-loop-turns-preserved invariant-loop decreases-loop
 more c =
     let turn = c.before.before.before.before.before.before.before in
-    (goes_more c.if1.false (turned turn), same_window turn, same_text turn)
+    (goes_more c.if-not-t.false (turned turn), same_window turn, same_text turn)
 
 pub run_spec : {M : Type 1} → statement M
 run_spec =
@@ -55,14 +52,14 @@ run_spec =
     invariant-loop
     decreases-loop
     (search rules)
-    (λ c. (rw c.new.ensures goes_nowhere, refl, refl))
+    (λ c. (rw c.new-carried.ensures goes_nowhere, refl, refl))
     (search rules) (search rules)
-    (λ c κs. let read = c.before.before.before.before in ended_inside read.read-on.result
-    read.read-on.ensures)
+    (λ c κs. ended_inside c.read_on-filled.result
+    c.read_on-filled.ensures)
     (λ c. same_window c.before.before.before.before.before.before.before)
     (λ c. same_text c.before.before.before.before.before.before.before)
     (λ c. goes_last_of (turned c.before.before.before.before.before.before.before))
     (search rules)
     more
     (search rules) (search rules)
-    (λ c. goes_last_of c.before.loop.invariant.0))
+    (λ c. goes_last_of c.loop-turns.invariant.0))

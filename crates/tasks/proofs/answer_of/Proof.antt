@@ -7,49 +7,49 @@ use Rattle.tasks.proofs.answer_of.Statement.{statement}
 use Rattle.tasks.proofs.answer_of.Tie as tie
 
 -- the log has n bytes,
-log_read : (c : tie.After-n) →
-    Whole.Bytes c.n.given.0.0 ≡ whole_in c.before.before.before.before.before.before.args.filled
-log_read c = sym c.n.given.1 ∙ c.before.before.length-read.ensures
+log_read : (c : tie.In-Bytes) →
+    Whole.Bytes c.in-Bytes.n ≡ whole_in c.args.filled
+log_read c = sym c.in-Bytes.is ∙ c.length_read.ensures
 
 -- and the labels have m
-labels_read : (c : tie.After-m) →
-    let args = c.before.before.before.before.before.before.before.before.before.before.args in
-    Whole.Bytes c.m.given.0.0 ≡ whole_in args.labelled
-labels_read c = sym c.m.given.1 ∙ c.before.before.length-read2.ensures
+labels_read : (c : tie.In-Bytes-length_read) →
+    let args = c.args in
+    Whole.Bytes c.in-Bytes-length_read.m ≡ whole_in args.labelled
+labels_read c = sym c.in-Bytes-length_read.is ∙ c.length_read-2.ensures
 
-log_inside : tie.Need-slice-bounds-print-task-end
+log_inside : tie.Need-slice_bounds-print_task-end
 log_inside c =
     let start : tie.Start = search rules in
-    let h = whole_inside _ _ (log_read (search rules)) start.pre.0 in
+    let h = whole_inside _ _ (log_read (search rules)) start.requires.0 in
     omega arith
 
-labels_inside : tie.Need-slice-bounds-print-task-end-2
+labels_inside : tie.Need-slice_bounds-print_task-end-2
 labels_inside c =
     let start : tie.Start = search rules in
-    let h = whole_inside _ _ (labels_read (search rules)) start.pre.1 in
+    let h = whole_inside _ _ (labels_read (search rules)) start.requires.1 in
     omega arith
 
-no_log : tie.Need-returns
+no_log : tie.Need-returns-in_default
 unfolding sheet_in answer_for left_for
 no_log c =
-    let e = sym c.enum_told.given.1 ∙ c.before.before.length-read.ensures in
+    let e = sym c.in_default.is ∙ c.length_read.ensures in
     rw (sym e) (record { answer = refl; left = refl })
 
-no_labels : tie.Need-returns-2
+no_labels : tie.Need-returns-in_default-length_read
 unfolding sheet_in answer_for left_for
 no_labels c =
-    let e = sym c.enum-told2.given.1 ∙ c.before.before.length-read2.ensures in
+    let e = sym c.in_default-length_read.is ∙ c.length_read-2.ensures in
     rw (sym (log_read (search rules)), sym e) (record { answer = refl; left = refl })
 
 -- a part from the start on
 from_start : (n : ℕ) → n - 0 ≡ n
 from_start n = omega arith
 
-both : tie.Need-returns-3
+both : tie.Need-returns
 unfolding sheet_in answer_for left_for
 both c =
-    let print : tie.After-print-task = search rules in
-    let p = simp from_start at print.print-task.ensures in
+    let print : tie.After-print_task = search rules in
+    let p = simp from_start at print.print_task.ensures in
     rw (sym (log_read (search rules)), sym (labels_read (search rules)))
     (record { answer = ap Answer.Printed p.answer; left = p.left })
 

@@ -9,6 +9,6 @@ length_read_spec =
     tie.close
     (tie.spec
     (search rules) (search rules) (search rules)
-    (λ c. rw c.before.filled.given.1)
-    (λ c. rw c.enum_told.given.1)
-    (λ c. rw c.enum-told2.given.1))
+    (λ c. rw c.in-Ended.is)
+    (λ c. rw c.in-Full.is)
+    (λ c. rw c.in-Failed.is))

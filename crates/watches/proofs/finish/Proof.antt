@@ -5,8 +5,7 @@ use Rattle.watches.proofs.finish.Tie as tie
 
 returns : tie.Need-returns
 returns c =
-    let write = c.before.before.before.before in
-    finished write.write-lines.ensures c.stop.ensures
+    finished c.write_lines-went.ensures c.stop.ensures
 
 pub finish_spec : {M : Type 1} → statement M
 finish_spec = tie.close (tie.spec (search rules) (search rules) (search rules) returns)

@@ -9,40 +9,32 @@ use Rattle.watches.proofs.move_on.Statement.{statement}
 use Rattle.watches.proofs.move_on.Tie as tie
 
 -- the whole lines are inside the window
-inside : (c : tie.After-piece-end) →
-    c.piece-end.result ≤ length (c.before.before.before.before.before.args.win.now)
+inside : (c : tie.After-piece_end-whole) →
+    c.piece_end-whole.result ≤ length (c.args.win.now)
 unfolding piece_end_of
 inside c =
-    let start = c.before.before.before.before.before in
-    let end = rw sub-zero at c.piece-end.ensures in
-    let n = start.args.n in
-    let win = start.args.win.now in
-    omega (arith, end, whole_le (take n win), length-take-le n win start.requires, start.requires)
+    let end = rw sub-zero at c.piece_end-whole.ensures in
+    let n = c.args.n in
+    let win = c.args.win.now in
+    omega (arith, end, whole_le (take n win), length-take-le n win c.requires, c.requires)
 
-not_written : tie.Need-returns
+not_written : tie.Need-returns-then-has_failed
 unfolding stopped
 not_written c =
-    let write = c.before.before.before.before.before.before in
-    rw c.stop.ensures (goes_last write.write-lines.ensures, λ h. never h refl)
+    rw c.stop.ensures (goes_last c.write_lines-went.ensures, λ h. never h refl)
 
-kept : tie.Need-returns-2
+kept : tie.Need-returns
 kept c =
-    let keep = c.before.before in
-    let test = keep.before.before in
-    let asked = test.before in
-    let write = asked.before.before.before.before in
-    let end = write.before.before.before.before in
-    let start = end.before.before.before.before.before in
-    let well = sym asked.has-failed.ensures ∙ test.if1.false in
-    moved start.requires (rw sub-zero at end.piece-end.ensures) (rw sub-zero at write.write-lines.ensures) well
-    (rw sub-zero at keep.keep-rest.ensures.0) (rw (sub-zero, rw sub-zero at keep.keep-rest.ensures.1))
+    let well = sym c.has_failed.ensures ∙ c.if-has_failed.false in
+    moved c.requires (rw sub-zero at c.piece_end-whole.ensures) (rw sub-zero at c.write_lines-went.ensures) well
+    (rw sub-zero at c.keep_rest-fill.ensures.0) (rw (sub-zero, rw sub-zero at c.keep_rest-fill.ensures.1))
 
 pub move_on_spec : {M : Type 1} → statement M
 move_on_spec =
     tie.close
     (tie.spec
     (search rules) (search rules) (search rules) (search rules) (search rules) (search rules)
-    (λ c. let h = inside c.before in search rules)
+    (λ c. let h = inside (search rules) in search rules)
     (search rules) (search rules) (search rules) (search rules) (search rules)
     not_written
     (search rules) (search rules) (search rules) (search rules) (search rules) (search rules)

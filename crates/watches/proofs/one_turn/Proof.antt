@@ -5,28 +5,24 @@ use Rattle.watches.proofs.one_turn.Statement.{statement}
 use Rattle.watches.proofs.one_turn.Tie as tie
 
 -- bytes that came are inside the window
-came_inside : (c : tie.After-came) →
-    let args = c.before.before.before.before.args in
-    args.fill + c.came.given.0.0 ≤ length (args.win.now)
-came_inside c = rw c.came.given.1 at c.before.before.before.before.requires
+came_inside : (c : tie.In-Bytes) →
+    let args = c.args in
+    args.fill + c.in-Bytes.n ≤ length (args.win.now)
+came_inside c = rw c.in-Bytes.is at c.requires
 
 -- those that wait are
-wait_inside : (c : tie.After-enum-told) →
-    let args = c.before.before.before.before.args in
+wait_inside : (c : tie.In-Ended) →
+    let args = c.args in
     args.fill < length (args.win.now)
-wait_inside c = rw c.enum_told.given.1 at c.before.before.before.before.requires
+wait_inside c = rw c.in-Ended.is at c.requires
 
-bytes : tie.Need-returns
+bytes : tie.Need-returns-in-Bytes
 bytes c =
-    let move = c.before.before.before.before in
-    let came = move.before.before.before.before in
-    rw came.came.given.1 move.move-on.ensures
+    rw c.in-Bytes.is c.move_on.ensures
 
-ended : tie.Need-returns-2
+ended : tie.Need-returns-in-Ended
 ended c =
-    let finish = c.before.before in
-    let told = finish.before.before.before.before in
-    rw told.enum_told.given.1 (rw sub-zero at finish.finish.ensures)
+    rw c.in-Ended.is (rw sub-zero at c.finish.ensures)
 
 pub one_turn_spec : {M : Type 1} → statement M
 one_turn_spec =
@@ -41,5 +37,5 @@ one_turn_spec =
     bytes
     (search rules) (search rules)
     ended
-    (λ c. rw c.before.enum-told2.given.1 c.stop.ensures)
-    (λ c. rw c.before.enum-told3.given.1 c.stop2.ensures))
+    (λ c. rw c.in-NoRoom.is c.stop.ensures)
+    (λ c. rw c.in-Failed.is c.stop-in-Failed.ensures))

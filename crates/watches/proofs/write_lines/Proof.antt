@@ -6,51 +6,47 @@ use Rattle.watches.proofs.Watching.{Writing, went_on, failed, put_more}
 use Rattle.watches.proofs.write_lines.Statement.{statement}
 use Rattle.watches.proofs.write_lines.Tie as tie
 
-abbrev invariant-loop : tie.invariant-loop
-invariant-loop lines to out₀ watch₀ from₀ out watch from =
+abbrev invariant-loop : tie.invariant-loop-from
+invariant-loop sys lines to out₀ watch₀ from₀ out watch from =
     Writing watch₀ lines from watch × (length out ≡ length out₀) × (length lines ≤ largest)
 
-abbrev decreases-loop : tie.decreases-loop
-decreases-loop lines to out₀ watch₀ from₀ out watch from = length lines - from
+abbrev decreases-loop : tie.decreases-loop-from
+decreases-loop sys lines to out₀ watch₀ from₀ out watch from = length lines - from
 
 -- the lines that were put
-more : (c : tie.After-put-lines invariant-loop decreases-loop) →
-    let test = c.before.before.before in
-    let args = test.before.before.before.before.args in
-    let r = c.put-lines.result in
-    Writing args.w (args.lines.now) (test.before.loop.from + r.taken) r.watch
-    × (r.end ≤ length test.before.loop.out)
+more : (c : tie.After-put_lines-put invariant-loop decreases-loop) →
+    let args = c.args in
+    let r = c.put_lines-put.result in
+    Writing args.w (args.lines.now) (c.loop-from.from + r.taken) r.watch
+    × (r.end ≤ length c.loop-from.out)
 more c =
-    let test = c.before.before.before in
-    let loop = test.before.loop in
-    let args = test.before.before.before.before.args in
-    put_more args.w loop.watch loop.invariant.0 _ _ c.put-lines.result test.loop-test.true
-    c.put-lines.ensures
+    let loop = c.loop-from in
+    let args = c.args in
+    put_more args.w loop.watch loop.invariant.0 _ _ c.put_lines-put.result c.loop-from-test.true
+    c.put_lines-put.ensures
 
-no_room : tie.Need-returns invariant-loop decreases-loop
+no_room : tie.Need-returns-then-taken-eq0 invariant-loop decreases-loop
 unfolding has_failed_of
-no_room c = failed c.before.before.before.before.before.before.before.loop.invariant.0 refl
+no_room c = failed c.loop-from.invariant.0 refl
 
-fits : tie.Need-slice-bounds-write-text-end invariant-loop decreases-loop
+fits : tie.Need-slice_bounds-write_text-end invariant-loop decreases-loop
 fits c = let h = (more c.before.before.before).1 in search rules
 
-not_written : tie.Need-returns-2 invariant-loop decreases-loop
+not_written : tie.Need-returns-then-has_failed invariant-loop decreases-loop
 not_written c =
-    let asked = c.before in
-    let test = asked.before.before.before.before.before.before.before.before.before.before.before in
-    failed test.before.loop.invariant.0 (sym asked.has-failed.ensures ∙ c.if2.true)
+    failed c.loop-from.invariant.0 (sym c.has_failed.ensures ∙ c.if-has_failed.true)
 
 -- the lines that were put and written
-abbrev written : (c : tie.After-watch invariant-loop decreases-loop) → tie.After-put-lines invariant-loop decreases-loop
+abbrev written : (c : tie.After-watch-1 invariant-loop decreases-loop) → tie.After-put_lines-put invariant-loop decreases-loop
 written c = c.before.before.before.before.before.before.before.before.before.before
 
-less_left : tie.Need-loop-smaller invariant-loop decreases-loop
+less_left : tie.Need-loop-from-smaller invariant-loop decreases-loop
 less_left c =
-    let some = c.before.before.before.before.before.before.before.if1.false in
+    let some = c.if-taken-eq0.false in
     omega (arith, (more (written c)).0.inside, some)
 
-again : tie.Need-loop-preserved invariant-loop decreases-loop
-again c = ((more (written c)).0, search rules, (written c).before.before.before.before.loop.invariant.2)
+again : tie.Need-loop-from-preserved invariant-loop decreases-loop
+again c = ((more (written c)).0, search rules, (written c).before.before.before.before.loop-from.invariant.2)
 
 pub write_lines_spec : {M : Type 1} → statement M
 write_lines_spec =
@@ -65,8 +61,8 @@ write_lines_spec =
     fits
     (search rules) (search rules) (search rules)
     not_written
-    (λ c. omega (arith, (more (written c)).0.inside, (written c).before.before.before.before.loop.invariant.2))
+    (λ c. omega (arith, (more (written c)).0.inside, (written c).before.before.before.before.loop-from.invariant.2))
     less_left
     again
     (search rules)
-    (λ c. went_on c.before.loop.invariant.0 c.loop-test.false))
+    (λ c. went_on c.loop-from.invariant.0 c.loop-from-test.false))

@@ -11,43 +11,43 @@ use Rattle.files.proofs.call.did_by.Tie as tie
 back : (c : tie.Start) → to_z w64 (of_z w64 c.args.got) ≡ c.args.got
 back c = to_z-of_z c.ranges.got
 
-below : (c : tie.Then1) → lt_z c.before.args.got (pos 0) ≡ true
-below c = rw (back c.before) at c.if1.true
+below : (c : tie.Then-got-lt0) → lt_z c.before.args.got (pos 0) ≡ true
+below c = rw (back c.before) at c.if-got-lt0.true
 
-not_below : (c : tie.Else1) → lt_z c.before.args.got (pos 0) ≡ false
-not_below c = rw (back c.before) at c.if1.false
+not_below : (c : tie.Else-got-lt0) → lt_z c.before.args.got (pos 0) ≡ false
+not_below c = rw (back c.before) at c.if-got-lt0.false
 
-again : tie.Need-returns
+again : tie.Need-returns-then-errno-eq-EINTR
 again c =
     let e = c.before.before.ranges.errno in
-    did_again _ _ (below c.before) (errno_is _ e (omega arith) c.if2.true)
+    did_again _ _ (below c.before) (errno_is _ e (omega arith) c.if-errno-eq-EINTR.true)
 
-closed : tie.Need-returns-2
+closed : tie.Need-returns-then-errno-eq-EPIPE
 closed c =
     let first = c.before in
     let e = first.before.before.ranges.errno in
-    let not = errno_isnt _ first.if2.false in
-    did_closed _ _ (below first.before) not (errno_is _ e (omega arith) c.if3.true)
+    let not = errno_isnt _ first.if-errno-eq-EINTR.false in
+    did_closed _ _ (below first.before) not (errno_is _ e (omega arith) c.if-errno-eq-EPIPE.true)
 
-failed : tie.Need-returns-3
+failed : tie.Need-returns-then-got-lt0
 failed c =
     let first = c.before in
-    did_failed _ _ (below first.before) (errno_isnt _ first.if2.false) (errno_isnt _ c.if3.false)
+    did_failed _ _ (below first.before) (errno_isnt _ first.if-errno-eq-EINTR.false) (errno_isnt _ c.if-errno-eq-EPIPE.false)
 
-none : tie.Need-returns-4
-none c = did_nothing _ _ (not_below c.before) c.if4.true
+none : tie.Need-returns-then-got-eq0
+none c = did_nothing _ _ (not_below c.before) c.if-got-eq0.true
 
-cast : tie.Need-overflow-cast-t5
+cast : tie.Need-overflow_cast-result
 cast c =
     let start = c.before.before in
     let got = start.args.got in
-    let some = did_bytes got start.args.errno start.ranges.got (not_below c.before) c.if4.false in
+    let some = did_bytes got start.args.errno start.ranges.got (not_below c.before) c.if-got-eq0.false in
     rw (back start) (some.0, some.1)
 
-bytes : tie.Need-returns-5
+bytes : tie.Need-returns
 bytes c =
     let start = c.before.before in
-    rw (back start) (did_bytes _ _ start.ranges.got (not_below c.before) c.if4.false).2
+    rw (back start) (did_bytes _ _ start.ranges.got (not_below c.before) c.if-got-eq0.false).2
 
 pub did_by_spec : {M : Type 1} → statement M
 did_by_spec = tie.close (tie.spec again closed failed none cast bytes)

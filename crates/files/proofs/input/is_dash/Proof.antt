@@ -7,5 +7,5 @@ use Rattle.files.proofs.input.is_dash.Tie as tie
 pub is_dash_spec : {M : Type 1} → statement M
 unfolding is_dash_of ◌=?◌
 is_dash_spec =
-    tie.close (tie.spec (λ c. sym (fails _ (no= c.if1.true))) (search rules)
-    (λ c. sym (holds (yes= c.before.if1.false) refl)))
+    tie.close (tie.spec (λ c. sym (fails _ (no= c.if-file-ne1.true))) (search rules)
+    (λ c. sym (holds (yes= c.before.if-file-ne1.false) refl)))

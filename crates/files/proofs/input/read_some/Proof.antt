@@ -7,7 +7,7 @@ use Rattle.files.proofs.Calls.{did_inside}
 use Rattle.files.proofs.input.read_some.Statement.{statement}
 use Rattle.files.proofs.input.read_some.Tie as tie
 
-long : tie.Need-same-length
+long : tie.Need-shape_of-buf
 long c = search rules
 
 returns : tie.Need-returns
@@ -19,11 +19,11 @@ returns c =
     let e = mid_len at (length b) b (omega arith) in
     record {
       long = long c;
-      front = take_put at (length b - at) b read.read.new.1.0 start.requires;
+      front = take_put at (length b - at) b read.read-got.new.buf start.requires;
       room =
-          rw (c.did-by.ensures, to_z-of_z {w = w64} {z = read.read.result} (record { sfits = read.read.type-inv }))
+          rw (c.did_by.ensures, to_z-of_z {w = w64} {z = read.read-got.result} (record { sfits = read.read-got.type_inv }))
           (did_inside at (length (mid_of at (length b - at) b)) b _ _ (omega (arith, e, start.requires))
-          read.read.ensures);
+          read.read-got.ensures);
     }
 
 pub read_some_spec : {M : Type 1} → statement M

@@ -3,11 +3,11 @@ use Rattle.text.proofs.Prelude.{rules, refl}
 use Rattle.files.proofs.outcome.write_text.Statement.{statement}
 use Rattle.files.proofs.outcome.write_text.Tie as tie
 
-terminal : tie.Need-returns
+terminal : tie.Need-returns-then-is_terminal
 unfolding pick
-terminal c = record { terminal = true; content = c.before.before.before.before.before.make-visible.ensures }
+terminal c = record { terminal = true; content = c.before.before.before.make_visible.ensures }
 
-other : tie.Need-returns-2
+other : tie.Need-returns
 unfolding pick
 other c = record { terminal = false; content = refl }
 

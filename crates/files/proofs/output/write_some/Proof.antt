@@ -14,8 +14,8 @@ returns c =
     let b = start.args.text.now in
     let at = start.args.at in
     let e = mid_len at (length b) b (omega arith) in
-    rw (c.did-by.ensures, to_z-of_z {w = w64} {z = write.write.result} (record { sfits = write.write.type-inv }))
-    (did_inside at (length (mid_of at (length b - at) b)) b _ _ (omega (arith, e, start.requires)) write.write.ensures)
+    rw (c.did_by.ensures, to_z-of_z {w = w64} {z = write.write-got.result} (record { sfits = write.write-got.type_inv }))
+    (did_inside at (length (mid_of at (length b - at) b)) b _ _ (omega (arith, e, start.requires)) write.write-got.ensures)
 
 pub write_some_spec : {M : Type 1} → statement M
 write_some_spec =

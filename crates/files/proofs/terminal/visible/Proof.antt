@@ -4,25 +4,25 @@ use Rattle.files.specs.Terminal.{visible}
 use Rattle.files.proofs.terminal.visible.Statement.{statement}
 use Rattle.files.proofs.terminal.visible.Tie as tie
 
-lf : tie.Need-returns
+lf : tie.Need-returns-then-b-eq10
 unfolding visible ◌∨?◌
-lf c = first _ (sym (first _ (yes= c.if1.true) refl)) refl
+lf c = first _ (sym (first _ (yes= c.if-b-eq10.true) refl)) refl
 
-below : tie.Need-returns-2
+below : tie.Need-returns-then-b-lt32
 unfolding visible ◌∨?◌
-below c = second _ (sym (second _ (no= c.before.if1.false) (sym (fails _ (no≤ c.if2.true))))) refl
+below c = second _ (sym (second _ (no= c.before.if-b-eq10.false) (sym (fails _ (no≤ c.if-b-lt32.true))))) refl
 
-above : tie.Need-returns-3
+above : tie.Need-returns-then-b-gt126
 unfolding visible ◌∨?◌
 above c =
-    let f = holds (yes≤ c.before.if2.false) (no≤ c.if3.true) in
-    second _ (sym (second _ (no= c.before.before.if1.false) (sym f))) refl
+    let f = holds (yes≤ c.before.if-b-lt32.false) (no≤ c.if-b-gt126.true) in
+    second _ (sym (second _ (no= c.before.before.if-b-eq10.false) (sym f))) refl
 
-printable : tie.Need-returns-4
+printable : tie.Need-returns
 unfolding visible ◌∨?◌
 printable c =
-    let f = holds (yes≤ c.before.if2.false) (yes≤ c.if3.false) in
-    first _ (sym (second _ (no= c.before.before.if1.false) (sym f))) refl
+    let f = holds (yes≤ c.before.if-b-lt32.false) (yes≤ c.if-b-gt126.false) in
+    first _ (sym (second _ (no= c.before.before.if-b-eq10.false) (sym f))) refl
 
 pub visible_spec : {M : Type 1} → statement M
 visible_spec = tie.close (tie.spec lf below above printable)

@@ -9,9 +9,9 @@ has_failed_spec =
     tie.close
     (tie.spec
     (search rules) (search rules) (search rules) (search rules) (search rules) (search rules)
-    (λ c. rw c.enum_told.given.1)
-    (λ c. rw c.enum-told2.given.1)
-    (λ c. rw c.enum-told3.given.1)
-    (λ c. rw c.enum-told4.given.1)
-    (λ c. rw c.enum-told5.given.1)
-    (λ c. rw c.enum-told6.given.1))
+    (λ c. rw c.in-Done.is)
+    (λ c. rw c.in-NotRead.is)
+    (λ c. rw c.in-LongLine.is)
+    (λ c. rw c.in-NoRoom.is)
+    (λ c. rw c.in-NotWritten.is)
+    (λ c. rw c.in-Closed.is))

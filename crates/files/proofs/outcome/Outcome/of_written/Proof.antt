@@ -9,6 +9,6 @@ of_written_spec =
     tie.close
     (tie.spec
     (search rules) (search rules) (search rules)
-    (λ c. rw c.enum_told.given.1)
-    (λ c. rw c.enum-told2.given.1)
-    (λ c. rw c.enum-told3.given.1))
+    (λ c. rw c.in-All.is)
+    (λ c. rw c.in-Closed.is)
+    (λ c. rw c.in-Failed.is))
