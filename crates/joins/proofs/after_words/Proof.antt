@@ -4,10 +4,10 @@ use Rattle.joins.proofs.after_words.Statement.{statement}
 use Rattle.joins.proofs.after_words.Tie as tie
 
 -- the window stays as long as it is
-abbrev invariant-loop : tie.invariant-loop
+abbrev invariant-loop : tie.invariant-loop-i
 invariant-loop sys first words win₀ halves₀ i₀ win halves i = length win ≡ length win₀
 
-abbrev decreases-loop : tie.decreases-loop
+abbrev decreases-loop : tie.decreases-loop-i
 decreases-loop sys first words win₀ halves₀ i₀ win halves i = words - i
 
 pub after_words_spec : {M : Type 1} → statement M
