@@ -6,7 +6,7 @@ ghost use Rattle.files.specs.Call.{Moved};
 
 use std::cell::Cell;
 use std::env::{Env, FillError};
-use std::fs::{File, OpenOptions};
+use std::fs::{File, OpenOptions, symlink_metadata};
 use std::io;
 use std::io::{IsTerminal, Read, Write};
 use std::str::from_utf8;
@@ -129,12 +129,19 @@ impl System {
         }
     }
 
-    // The descriptor of one digit, by the name that Linux gives it.
+    // The descriptor of one digit, by the name that Linux gives it. That link says how the descriptor is open: to one that
+    // is open for reading alone nothing can be written.
     fn open_number(&self, n: u8) -> io::Result<File> {
         let mut name = *b"/proc/self/fd/0";
         name[14] = b'0' + n % 10;
         match from_utf8(&name) {
-            Ok(path) => OpenOptions::new().append(true).open(&self.rt, path),
+            Ok(path) => {
+                let link = symlink_metadata(&self.rt, path)?;
+                if link.permissions().readonly() {
+                    return Err(io::Error::from_raw_os_error(EBADF));
+                }
+                OpenOptions::new().append(true).open(&self.rt, path)
+            }
             Err(_) => Err(io::Error::from_raw_os_error(EILSEQ)),
         }
     }
