@@ -1,5 +1,5 @@
 #!/usr/bin/env python3
-"""Brings this repository's own names to the spelling of today's Rattle, once, after /opt/rattle/port/port.py.
+"""Brings this repository's own names to the spelling of today's Rattle, once, after the kit's port.py.
 
 usage: tools/port_names.py [--list]     in the repository, on the tree that port.py left; --list prints the names alone
 
