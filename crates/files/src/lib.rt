@@ -3,6 +3,7 @@
 #![tactic(auto)]
 
 pub mod call;
+mod descriptor;
 pub mod input;
 pub mod outcome;
 pub mod output;

@@ -4,9 +4,10 @@ ghost use Rattle.std.specs.Prelude.{◌≡◌, ◌≤◌, length};
 ghost use Rattle.std.specs.Io.{ReadsAtMost, WritesAtMost};
 ghost use Rattle.files.specs.Call.{Moved};
 
+use crate::descriptor::write_whole;
 use std::cell::Cell;
 use std::env::{Env, FillError};
-use std::fs::{File, OpenOptions, symlink_metadata};
+use std::fs::File;
 use std::io;
 use std::io::{IsTerminal, Read, Write};
 use std::str::from_utf8;
@@ -125,25 +126,18 @@ impl System {
             Sink::Nowhere => Err(io::Error::from_raw_os_error(EBADF)),
             Sink::Output => self.rt.stdout().write(text),
             Sink::Errors => self.rt.stderr().write(text),
-            Sink::Number(n) => self.open_number(n)?.write(text),
+            Sink::Number(n) => self.write_to_number(n, text),
         }
     }
 
-    // The descriptor of one digit, by the name that Linux gives it. That link says how the descriptor is open: to one that
-    // is open for reading alone nothing can be written.
-    fn open_number(&self, n: u8) -> io::Result<File> {
-        let mut name = *b"/proc/self/fd/0";
-        name[14] = b'0' + n % 10;
-        match from_utf8(&name) {
-            Ok(path) => {
-                let link = symlink_metadata(&self.rt, path)?;
-                if link.permissions().readonly() {
-                    return Err(io::Error::from_raw_os_error(EBADF));
-                }
-                OpenOptions::new().append(true).open(&self.rt, path)
-            }
-            Err(_) => Err(io::Error::from_raw_os_error(EILSEQ)),
+    // All of it to the descriptor of one digit, which std has no handle of; or nothing is said of why it failed.
+    fn write_to_number(&self, n: u8, text: &[u8]) -> io::Result<usize>
+        ensures { WritesAtMost result text.now }
+    {
+        if write_whole(n, text) {
+            return Ok(text.len());
         }
+        Err(io::Error::from_raw_os_error(EBADF))
     }
 
     // The file with this name, or nothing. A name is UTF-8.
