@@ -1,19 +1,19 @@
 -- A lines: the recorder's maker and number.
+use Rattle.text.specs.Prelude.{None, Option, Some}
 use Rattle.std.specs.Prelude.{◌+◌, ◌∷◌, ◌++◌}
-use Rattle.text.specs.Prelude.{ℕ, code, Bool, List, [], length, Res, ok, no, bind, guard, pick, ◌≤?◌}
+use Rattle.text.specs.Prelude.{ℕ, code, Bool, List, [], length, Res, ok, bind, guard, pick, ◌≤?◌}
 use Rattle.text.specs.Prelude.{◌=?◌, ◌∧?◌, byte, cut, all_digits_of}
 use Rattle.part.specs.Part.{name_from, part_text, maybe_text, part_bytes, maybe_bytes}
 use Rattle.text.specs.declared.refusal.Refusal.TheVariants.{Syntax, NotAscii}
-use Rattle.part.specs.declared.{Part.Part, MaybePart.MaybePart}
+use Rattle.part.specs.declared.{Part.Part}
 use Rattle.field.specs.Field.{ascii_in, mnemonic_text}
 use Rattle.field.specs.declared.Mnemonic.{Mnemonic}
 use Rattle.manufacturer.specs.Maker.{letter_maker, triple_maker, triple_of}
-use Rattle.manufacturer.specs.declared.{Manufacturer.Manufacturer, MaybeTriple.MaybeTriple}
-use Rattle.manufacturer.specs.declared.MaybeTriple.TheVariants.{Missing, Triple}
-use Rattle.a_record.specs.declared.{ARecord.ARecord, ARead.ARead}
+use Rattle.manufacturer.specs.declared.{Manufacturer.Manufacturer}
+use Rattle.a_record.specs.declared.{ARecord.ARecord}
 
 -- A record of its three parts.
-unfoldable pub a_new : Manufacturer → Part → MaybePart → ARecord
+unfoldable pub a_new : Manufacturer → Part → Option Part → ARecord
 a_new maker id rest = record { manufacturer = maker; unique_id = id; id_extension = rest }
 
 -- A maker, an id of w bytes from column a on, and the rest behind it; an empty rest is none.
@@ -50,9 +50,9 @@ read_a s =
     (read_triple s)))
 
 -- A maker prints its triple; one that has none prints nothing.
-unfoldable pub triple_text : MaybeTriple → List ℕ
-triple_text Missing = []
-triple_text (Triple t) = mnemonic_text t
+unfoldable pub triple_text : Option Mnemonic → List ℕ
+triple_text None = []
+triple_text (Some t) = mnemonic_text t
 
 -- The letter, the triple, id and rest.
 unfoldable pub a_body : ARecord → List ℕ → List ℕ → List ℕ
@@ -68,9 +68,3 @@ a_text r s =
     bind (part_text r.unique_id s) (λ id.
     bind (maybe_text r.id_extension s) (λ rest.
     ok (a_body r id rest)))
-
--- ---- the answers of the code
-
-abbrev pub a_res : ARead → Res ARecord
-a_res (ARead.Ok v) = ok v
-a_res (ARead.Refused n) = no n

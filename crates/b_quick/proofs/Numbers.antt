@@ -1,6 +1,6 @@
 -- The quick way: fields whose numbers are digits alone are read as their values.
 use Rattle.text.specs.Prelude.{ℕ, ◌+◌, ◌-◌, ◌≤◌, ◌<◌, ◌≡◌, Bool, true, false, List, length, Res, ok, bind, moved, guard}
-use Rattle.text.specs.Prelude.{◌≤?◌, ◌∧?◌, place_of, placed, moved_by, byte, cut, columns}
+use Rattle.text.specs.Prelude.{◌≤?◌, ◌∧?◌, placed, moved_by, byte, cut, columns}
 use Rattle.text.specs.Prelude.{read_nat_of, read_int_of, all_digits_of, value_from}
 use Rattle.text.proofs.Prelude.{arith, refl, sym, ap, ◌∙◌, length-drop, length-take, on, found_in, pass, yes=, both}
 use Rattle.text.specs.declared.refusal.Refusal.TheVariants.{OutOfRange}
@@ -147,7 +147,7 @@ both_at s = rw (cut_cut 7 24 0 8 s (omega arith), cut_cut 7 24 8 17 s (omega ari
 
 -- a time that is out of range has no place
 time_stands : (a h m t : ℕ) → moved a (time_of h m t) ≡ time_of h m t
-unfolding time_of moved guard moved_by placed place_of
+unfolding time_of moved guard moved_by placed
 time_stands a h m t = guarded ((h ≤? 24) ∧? (m ≤? 60) ∧? (t ≤? 60))
   where
     guarded : (b : Bool) → moved {A = Time} a (guard b OutOfRange (ok (record { hours = h; minutes = m; seconds = t })))

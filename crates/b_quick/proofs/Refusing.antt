@@ -1,4 +1,6 @@
--- The quick way says No of plain digits: `read_fix` refuses them.
+-- The quick way says None of plain digits: `read_fix` refuses them.
+use Rattle.std.specs.Result.{result_ok}
+use Rattle.text.specs.Prelude.{None, Option, Some}
 use Rattle.text.specs.Prelude.{ℕ, ◌+◌, ◌<◌, ◌≡◌, Bool, true, false, List, Res, ok, no, bind, moved, guard, byte, cut}
 use Rattle.text.specs.Prelude.{columns}
 use Rattle.text.specs.Prelude.{read_nat_of, read_int_of, read_digits_of}
@@ -16,7 +18,6 @@ use Rattle.position.specs.Position.{read_both, read_position}
 use Rattle.b_record.specs.BRecord.{valid_of, read_heights_of, read_fix}
 use Rattle.b_record.specs.declared.BRecord.{BRecord}
 use Rattle.b_quick.specs.Quick.{fix_read}
-use Rattle.b_quick.specs.declared.Quick.TheVariants.{Fix, No}
 use Rattle.b_quick.proofs.Numbers.{coord_at, latitude_of, longitude_of, both_at}
 
 -- ---- answers that refuse
@@ -29,6 +30,16 @@ pub record Refuses {A : Type 0} (m : Res A) : Type 0 where
 -- a refusal that is known
 pub refuses : {A : Type 0} {m : Res A} {n : Refusal} → no n ≡ m → Refuses m
 refuses {n} e = record { why = n; refused = e }
+
+-- a reading whose `ok()` is None refuses,
+pub none_refuses : {A : Type 0} {o : Option A} {r m : Res A} → o ≡ None → o ≡ result_ok r → r ≡ m → Refuses m
+none_refuses {r = ok a} p q e = let z : ◌≡◌ {A = ℕ} 0 1 = cc in let f : ⊥ = omega arith in absurd f
+none_refuses {r = no n} p q e = refuses e
+
+-- and one whose `ok()` is Some reads what is in it
+pub some_read : {A : Type 0} {a : A} {o : Option A} {r m : Res A} → o ≡ Some a → o ≡ result_ok r → r ≡ m → ok a ≡ m
+some_read {r = ok b} p q e = cc
+some_read {r = no n} p q e = let z : ◌≡◌ {A = ℕ} 0 1 = cc in let f : ⊥ = omega arith in absurd f
 
 -- of two in a row the first refuses
 refuses_first : {A B : Type 0} {m : Res A} (f : A → Res B) → Refuses m → Refuses (bind m f)
@@ -53,12 +64,12 @@ refuses_moved a r = refuses (refused_in a r.refused refl)
 -- ---- what the quick way says of a fix's reading
 
 -- the fix that it finds
-pub fix_found : {b : BRecord} {m : Res BRecord} → ok b ≡ m → Fix b ≡ fix_read m
+pub fix_found : {b : BRecord} {m : Res BRecord} → ok b ≡ m → Some b ≡ fix_read m
 unfolding fix_read
 fix_found e = ap fix_read e
 
--- No where it refuses
-pub fix_refused : {m : Res BRecord} → Refuses m → No ≡ fix_read m
+-- None where it refuses
+pub fix_refused : {m : Res BRecord} → Refuses m → None ≡ fix_read m
 unfolding fix_read
 fix_refused r = ap fix_read r.refused
 

@@ -2,26 +2,19 @@
 // Where this way says no, nothing is said, and `BRecord::parse` decides.
 #![tactic(auto)]
 
-ghost use Rattle.std.specs.Prelude.{◌≡◌, true, ◌≤◌, length};
+ghost use Rattle.std.specs.Prelude.{◌≡◌, None, true, ◌≤◌, length};
 ghost use Rattle.text.specs.Res.{pick};
 ghost use Rattle.text.specs.Number.{all_digits_of, value_from};
 ghost use Rattle.field.specs.Field.{is_ascii_of};
 ghost use Rattle.b_record.specs.BRecord.{read_fix};
 ghost use Rattle.b_quick.specs.Quick.{plain_digits, fix_read, quick_of};
-ghost use Rattle.b_quick.specs.declared.Quick.TheVariants.{No};
 
-use b_record::{BRecord, FixValid, GpsAlt, PressureAlt, ValidRead};
-use coord::{LatitudeRead, LongitudeRead, RawLatitude, RawLongitude};
+use b_record::{BRecord, FixValid, GpsAlt, PressureAlt};
+use coord::{Axis, RawLatitude, RawLongitude};
 use field::{all_digits, is_ascii};
 use part::Part;
 use position::RawPosition;
-use time::{Time, TimeRead};
-
-#[derive(Clone, Copy)]
-pub enum Quick {
-    Fix(BRecord),
-    No,
-}
+use time::Time;
 
 // Every column of a number is a digit. Blocks of eight columns, some of them twice: the compiler makes one test of each
 // block.
@@ -50,21 +43,19 @@ fn value(digits: &[u8]) -> u32
     ensures { result ≡ value_from 0 digits.now }
 {
     let mut v: u32 = 0;
-    let mut i = 0;
-    while i < digits.len() {
-        v = v * 10 + (digits[i] as u32 - 48);
-        i += 1;
+    for d in digits {
+        v = v * 10 + (*d - b'0') as u32;
     }
     v
 }
 
 // What `quick_fix` says of a line that is long enough and ASCII.
-fn plain_fix(line: &[u8]) -> Quick
+fn plain_fix(line: &[u8]) -> Option<BRecord>
     requires { (35 ≤ length line.now) × (is_ascii_of line.now ≡ true) }
-    ensures { result ≡ pick (plain_digits line.now) (fix_read (read_fix line.now)) No }
+    ensures { result ≡ pick (plain_digits line.now) (fix_read (read_fix line.now)) None }
 {
     if !plain(line) {
-        return Quick::No;
+        return None;
     }
     let lat_minutes = value(&line[9..14]);
     let lon_degrees = value(&line[15..18]);
@@ -72,59 +63,48 @@ fn plain_fix(line: &[u8]) -> Quick
     let pressure = value(&line[25..30]);
     let gps = value(&line[30..35]);
     if 65535 < lat_minutes {
-        return Quick::No;
+        return None;
     }
     if 255 < lon_degrees {
-        return Quick::No;
+        return None;
     }
     if 65535 < lon_minutes {
-        return Quick::No;
+        return None;
     }
     if 32767 < pressure {
-        return Quick::No;
+        return None;
     }
     if 32767 < gps {
-        return Quick::No;
+        return None;
     }
     let hours = value(&line[1..3]) as u8;
     let minutes = value(&line[3..5]) as u8;
     let seconds = value(&line[5..7]) as u8;
-    let timestamp = match Time::from_hms(hours, minutes, seconds) {
-        TimeRead::Ok(time) => time,
-        TimeRead::Refused(_) => return Quick::No,
-    };
+    let timestamp = Time::from_hms(hours, minutes, seconds).ok()?;
     let lat_degrees = value(&line[7..9]) as u8;
-    let lat = match RawLatitude::lettered(lat_degrees, lat_minutes as u16, line[14]) {
-        LatitudeRead::Ok(north) => north,
-        LatitudeRead::Refused(_) => return Quick::No,
-    };
-    let lon = match RawLongitude::lettered(lon_degrees as u8, lon_minutes as u16, line[23]) {
-        LongitudeRead::Ok(east) => east,
-        LongitudeRead::Refused(_) => return Quick::No,
-    };
-    match FixValid::from_letter(line[24]) {
-        ValidRead::Ok(fix_valid) => Quick::Fix(BRecord {
-            rest: Part::from_column(BRecord::BASE_LENGTH, line),
-            pos: RawPosition { lat, lon },
-            pressure_alt: PressureAlt(pressure as i16),
-            gps_alt: GpsAlt(gps as i16),
-            timestamp,
-            fix_valid,
-        }),
-        ValidRead::Refused(_) => Quick::No,
-    }
+    let lat = RawLatitude::lettered(lat_degrees, lat_minutes as u16, line[14]).ok()?;
+    let lon = RawLongitude::lettered(lon_degrees as u8, lon_minutes as u16, line[23]).ok()?;
+    let fix_valid = FixValid::from_letter(line[24]).ok()?;
+    Some(BRecord {
+        rest: Part::from_column(BRecord::BASE_LENGTH, line),
+        pos: RawPosition { lat, lon },
+        pressure_alt: PressureAlt(pressure as i16),
+        gps_alt: GpsAlt(gps as i16),
+        timestamp,
+        fix_valid,
+    })
 }
 
-// A fix of plain digits, read without a test at each byte; No where that way says nothing, and `BRecord::parse`
+// A fix of plain digits, read without a test at each byte; None where that way says nothing, and `BRecord::parse`
 // decides.
-pub fn quick_fix(line: &[u8]) -> Quick
+pub fn quick_fix(line: &[u8]) -> Option<BRecord>
     ensures { result ≡ quick_of line.now }
 {
     if line.len() < BRecord::BASE_LENGTH {
-        return Quick::No;
+        return None;
     }
     if !is_ascii(line) {
-        return Quick::No;
+        return None;
     }
     plain_fix(line)
 }

@@ -1,1 +1,2 @@
 pub mod BRecord
+pub mod Height

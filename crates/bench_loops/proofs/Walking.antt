@@ -1,10 +1,11 @@
 -- A turn by `Walk::step`, which carries place, number and table along.
+use Rattle.records.specs.declared.Record.{Record}
+use Rattle.text.specs.Prelude.{Res}
 use Rattle.text.specs.Prelude.{ℕ, ◌-◌, ◌<◌, ◌≡◌, List, length}
-use Rattle.text.proofs.Prelude.{arith, refl, sym, ◌∙◌}
+use Rattle.text.proofs.Prelude.{arith, refl, sym, ap, ◌∙◌}
 use Rattle.part.specs.Part.{bytes_of}
 use Rattle.part.specs.declared.Part.{Part}
-use Rattle.records.specs.Record.{read_line_of, reading_res}
-use Rattle.records.specs.declared.Reading.{Reading}
+use Rattle.records.specs.Record.{read_line_of}
 use Rattle.igc_log.specs.Line.{cut_at}
 use Rattle.igc_log.specs.Fold.{Carried, fresh}
 use Rattle.igc_log.proofs.Cuts.{cut_viewed}
@@ -12,11 +13,11 @@ use Rattle.igc_log.proofs.Reached.{Reached, line, less_left}
 use Rattle.held.specs.declared.tables.Tables.{Tables}
 use Rattle.report.specs.Report.{report_after}
 use Rattle.cursor.specs.Cursor.{past}
-use Rattle.walk.specs.Walk.{reading_of, step_of}
+use Rattle.walk.specs.Walk.{step_of}
 use Rattle.walk.specs.Readings.{LineReading, reader}
 use Rattle.walk.specs.declared.{Walk.Walk, Step.Step}
-use Rattle.walk.specs.declared.Taken.TheVariants.{Line, Done}
-use Rattle.walk.proofs.Laws.{viewed, step_on}
+use Rattle.text.specs.Prelude.{Some, None}
+use Rattle.walk.proofs.Laws.{step_on}
 use Rattle.walk.proofs.Steps.{Roomy, going, roomy_on, roomy_step}
 
 -- what a walk carries, with a made so far
@@ -37,15 +38,18 @@ module _ {T : Type 0} {step : T → LineReading → T} {a₀ a : T} {s : List �
       held = reader.after w.at.place w.held here;
       report = report_after w.report w.at.place (read_line_of here);
     };
-    taken = Line (cut_at w.at.place s).line (reading_of (read_line_of here));
+    taken = Some ((cut_at w.at.place s).line, read_line_of here);
   }
   step_here = let on = going s w (roomy_on roomy i) in e ∙ step_on s w on.0 on.1 on.2
 
-  pub not_done : t.taken ≡ Done → ⊥
+  pub not_done : t.taken ≡ None → ⊥
   not_done d = let n = step_here in let z : ◌≡◌ {A = ℕ} 0 1 = cc in omega arith
 
-  pub step_read : {part : Part} {q : Reading} → t.taken ≡ Line part q → reading_res q ≡ read_line_of here
-  step_read {q} k = let n = step_here in let z : q ≡ reading_of (read_line_of here) = cc in rw z (viewed (read_line_of here))
+  pub step_read : {part : Part} {q : (Res Record)} → t.taken ≡ Some (part, q) → q ≡ read_line_of here
+  step_read {part} {q} k =
+      let n = step_here in
+      let z : ◌≡◌ {A = Part × Res Record} (part, q) ((cut_at w.at.place s).line, read_line_of here) = cc in
+      ap (λ (x : Part × Res Record). x.1) z
 
   -- the line that was read, with a' made of it
   pub step_turn : {a' : T} → ((n : ℕ) (h : Tables) →

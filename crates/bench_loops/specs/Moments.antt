@@ -1,16 +1,16 @@
 -- What is timed of moments: what an index holds for an hour, and a question for each minute of one.
+use Rattle.text.specs.Prelude.{None, Option, Some}
 use Rattle.text.specs.Prelude.{ℕ, zero, suc, List}
 use Rattle.time.specs.Time.{time_of}
 use Rattle.moment_fix.specs.declared.Moment.{Moment}
 use Rattle.hours.specs.Hours.{held_for}
-use Rattle.hours.specs.declared.First.{First}
 use Rattle.moment.specs.Moment.{index_of, by_walk}
 use Rattle.bench_loops.specs.Timed.{summed}
 
 -- The place that is held; for none 0.
-unfoldable pub of_first_of : First → ℕ
-of_first_of First.Nowhere = 0
-of_first_of (First.At p) = p
+unfoldable pub of_first_of : Option ℕ → ℕ
+of_first_of None = 0
+of_first_of (Some p) = p
 
 -- The place that was found; for none 0.
 unfoldable pub of_moment_of : Moment → ℕ

@@ -1,4 +1,6 @@
 -- What is timed: figures over the readings of a fresh walk, in 64 bits.
+use Rattle.report.specs.Peak.{GpsPeak, PressurePeak}
+use Rattle.text.specs.Prelude.{None, Option, Some}
 use Rattle.std.specs.Prelude.{◌+◌, ◌%◌, ◌^◌, ◌≡◌}
 use Rattle.text.specs.Prelude.{ℕ, List, length, ℤ, pos, negsuc, Res, ok, no, byte}
 use Rattle.part.specs.Part.{bytes_of, shown}
@@ -7,8 +9,7 @@ use Rattle.print.specs.Print.{answer_to, left_by}
 use Rattle.time.specs.Time.{seconds_of_lem}
 use Rattle.b_record.specs.declared.BRecord.{BRecord}
 use Rattle.records.specs.Record.{record_fix, answer_fix}
-use Rattle.records.specs.declared.{Record.Record, MaybeFix.MaybeFix}
-use Rattle.records.specs.declared.MaybeFix.TheVariants.{Missing, Fix}
+use Rattle.records.specs.declared.{Record.Record}
 use Rattle.record_print.specs.Printed.{answer_printed}
 use Rattle.held.specs.Held.{look_up}
 use Rattle.held.specs.declared.Held.{Held}
@@ -17,7 +18,6 @@ use Rattle.igc_log.specs.Fold.{over}
 use Rattle.report.specs.Range.{Range, none, between}
 use Rattle.report.specs.Figures.{Figures}
 use Rattle.report.specs.Report.{report_of}
-use Rattle.report.specs.declared.{pressure.PressurePeak.PressurePeak, gps.GpsPeak.GpsPeak}
 use Rattle.walk.specs.Readings.{LineReading, reader}
 
 -- A sum, as 64 bits hold it.
@@ -37,9 +37,9 @@ of_fix_of b =
     + (above b.pressure_alt.0 + above b.gps_alt.0)
 
 -- Of an accepted record: of a fix these, of any other 1.
-unfoldable pub of_accepted : MaybeFix → ℕ
-of_accepted (Fix b) = of_fix_of b
-of_accepted Missing = 1
+unfoldable pub of_accepted : Option BRecord → ℕ
+of_accepted (Some b) = of_fix_of b
+of_accepted None = 1
 
 -- Of a refused line 0.
 unfoldable pub of_answer : Res Record → ℕ
@@ -64,9 +64,9 @@ unfoldable pub of_value_of : List ℕ → ℕ
 of_value_of v = summed (length v) (byte 0 v)
 
 -- Of what a name finds on a fix; where there is none 0.
-unfoldable pub of_named_of : Mnemonic → Held → MaybeFix → List ℕ → ℕ
-of_named_of name h (Fix b) s = of_value_of (bytes_of (shown (look_up 35 b.rest h name s)) s)
-of_named_of name h Missing s = 0
+unfoldable pub of_named_of : Mnemonic → Held → Option BRecord → List ℕ → ℕ
+of_named_of name h (Some b) s = of_value_of (bytes_of (shown (look_up 35 b.rest h name s)) s)
+of_named_of name h None s = 0
 
 -- The length that a printer wrote; 0 where it refused.
 unfoldable pub written_length : Res ℕ → ℕ

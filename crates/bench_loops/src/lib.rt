@@ -5,27 +5,26 @@
 pub mod moments;
 
 ghost use Rattle.std.specs.Prelude.{◌≡◌};
-ghost use Rattle.records.specs.Record.{reading_res};
 ghost use Rattle.record_print.specs.Printed.{answer_printed};
 ghost use Rattle.bench_loops.specs.Timed.{above as Timed·above, of_fix_of, of_answer, of_value_of, of_named_of, PrintedLine};
-ghost use Rattle.report.specs.Report.{pressure_in, gps_in, times_in};
+ghost use Rattle.report.specs.Peak.{range_in};
 ghost use Rattle.bench_loops.specs.Timed.{of_range, read_sum, report_sum, look_up_sum, printed_out};
 
-use b_record::BRecord;
+use b_record::{BRecord, Height};
 use field::Mnemonic;
 use held::Held;
 use held::tables::Tables;
-use print::printed::Printed;
+use part::InLine;
 use record_print::print_record;
-use records::{MaybeFix, Reading, Record};
-use report::gps::GpsRange;
-use report::pressure::PressureRange;
-use report::times::TimeRange;
+use records::{Reading, fix_in};
+use report::peak::{Peak, TimeRange};
+use report::range::Extremes;
 use reported::end::walk_to_end;
 use std::num::wrapping_add_u64;
+use walk::Walk;
 use walk::turn::read_at;
-use walk::{Taken, Walk};
 
+#[tactic(auto, unfolding(crate::specs::Timed::above))]
 fn above(height: i16) -> u64
     ensures { result ≡ Timed·above height }
 {
@@ -42,14 +41,15 @@ fn of_fix(fix: BRecord) -> u64
     time.seconds_since_midnight() as u64 + minutes + heights
 }
 
+#[tactic(auto, unfolding(crate::specs::Timed::of_answer, crate::specs::Timed::of_accepted))]
 fn of_reading(reading: Reading) -> u64
-    ensures { result ≡ of_answer (reading_res reading) }
+    ensures { result ≡ of_answer reading }
 {
     match reading {
-        Reading::Refused(_) => 0,
-        Reading::Accepted(seen) => match seen.fix() {
-            MaybeFix::Fix(fix) => of_fix(fix),
-            MaybeFix::Missing => 1,
+        Err(_) => 0,
+        Ok(seen) => match seen.fix() {
+            Some(fix) => of_fix(fix),
+            None => 1,
         },
     }
 }
@@ -60,6 +60,7 @@ pub fn timed_read(log: &[u8]) -> u64
 {
     let mut sum: u64 = 0;
     let mut at = 0;
+    // A `while`, since it steps by what a line takes.
     while at < log.len() {
         let got = read_at(log, at);
         let reading = got.reading;
@@ -75,50 +76,40 @@ pub fn timed_step(log: &[u8]) -> u64
 {
     let mut walk = Walk::new();
     let mut sum: u64 = 0;
+    // A `while`, since it steps by what a line takes.
     while walk.at.place < log.len() {
         let step = walk.step(log);
-        let taken = step.taken;
-        match taken {
-            Taken::Done => return sum,
-            Taken::Line(_, reading) => {
-                sum = wrapping_add_u64(sum, of_reading(reading));
-                walk = step.walk;
-            }
-        }
+        let Some((_, reading)) = step.taken else {
+            return sum;
+        };
+        sum = wrapping_add_u64(sum, of_reading(reading));
+        walk = step.walk;
     }
     sum
 }
 
-fn of_pressure(range: PressureRange) -> u64
-    ensures { result ≡ of_range (λ p. Timed·above p.height.0) (pressure_in range) }
+// Of the heights of a datum.
+fn of_heights<H: Height>(range: Option<Extremes<Peak<H>>>) -> u64
+    ensures { result ≡ of_range (λ p. Timed·above (H.metres_of p.height)) (range_in range) }
 {
     match range {
-        PressureRange::Missing => 0,
-        PressureRange::Between { high, low } => {
-            wrapping_add_u64(above(high.height.0), above(low.height.0))
+        None => 0,
+        Some(ends) => {
+            wrapping_add_u64(
+                above(ends.high.height.metres()),
+                above(ends.low.height.metres()),
+            )
         }
     }
 }
 
-fn of_gps(range: GpsRange) -> u64
-    ensures { result ≡ of_range (λ p. Timed·above p.height.0) (gps_in range) }
-{
-    match range {
-        GpsRange::Missing => 0,
-        GpsRange::Between { high, low } => {
-            wrapping_add_u64(above(high.height.0), above(low.height.0))
-        }
-    }
-}
-
+#[tactic(auto, unfolding(crate::specs::Timed::of_range, crate::specs::Timed::summed))]
 fn of_times(range: TimeRange) -> u64
-    ensures { result ≡ of_range (λ t. t) (times_in range) }
+    ensures { result ≡ of_range (λ t. t) (range_in range) }
 {
     match range {
-        TimeRange::Missing => 0,
-        TimeRange::Between { latest, earliest } => {
-            wrapping_add_u64(latest as u64, earliest as u64)
-        }
+        None => 0,
+        Some(ends) => wrapping_add_u64(ends.high as u64, ends.low as u64),
     }
 }
 
@@ -128,14 +119,12 @@ pub fn timed_walk(log: &[u8]) -> u64
 {
     let walk = walk_to_end(Walk::new(), log);
     let report = walk.report;
-    let pressure = report.pressure;
-    let gps = report.gps;
-    let times = report.times;
     let counts = wrapping_add_u64(report.lines, report.fixes);
-    let heights = wrapping_add_u64(of_pressure(pressure), of_gps(gps));
-    wrapping_add_u64(wrapping_add_u64(counts, heights), of_times(times))
+    let heights = wrapping_add_u64(of_heights(report.pressure), of_heights(report.gps));
+    wrapping_add_u64(wrapping_add_u64(counts, heights), of_times(report.times))
 }
 
+#[tactic(auto, unfolding(crate::specs::Timed::of_value_of, crate::specs::Timed::summed))]
 fn of_value(value: &[u8]) -> u64
     ensures { result ≡ of_value_of value.now }
 {
@@ -145,12 +134,13 @@ fn of_value(value: &[u8]) -> u64
     wrapping_add_u64(value.len() as u64, value[0] as u64)
 }
 
-fn of_named(name: Mnemonic, held: Held, fix: MaybeFix, line: &[u8]) -> u64
+#[tactic(auto, unfolding(crate::specs::Timed::of_named_of))]
+fn of_named(name: Mnemonic, held: Held, fix: Option<BRecord>, line: &[u8]) -> u64
     ensures { result ≡ of_named_of name held fix line.now }
 {
     match fix {
-        MaybeFix::Fix(b) => of_value(held.get(BRecord::BASE_LENGTH, b.rest, name, line)),
-        MaybeFix::Missing => 0,
+        Some(b) => of_value(held.get(BRecord::BASE_LENGTH, b.rest, name, line)),
+        None => 0,
     }
 }
 
@@ -162,6 +152,7 @@ pub fn timed_lookup(log: &[u8], a: u8, b: u8, c: u8) -> u64
     let mut held = Tables::new();
     let mut sum: u64 = 0;
     let mut at = 0;
+    // A `while`, since it steps by what a line takes.
     while at < log.len() {
         let got = read_at(log, at);
         let part = got.line;
@@ -169,7 +160,7 @@ pub fn timed_lookup(log: &[u8], a: u8, b: u8, c: u8) -> u64
         let line = part.view(log);
         held = held.after(line);
         sum = wrapping_add_u64(sum, of_reading(reading));
-        sum = wrapping_add_u64(sum, of_named(name, held.i, reading.fix(), line));
+        sum = wrapping_add_u64(sum, of_named(name, held.i, fix_in(reading), line));
         at = got.next;
     }
     sum
@@ -177,14 +168,14 @@ pub fn timed_lookup(log: &[u8], a: u8, b: u8, c: u8) -> u64
 
 // What was read, printed again; the length of its text, and 0 where there is none.
 fn print_line(reading: Reading, line: &[u8], buf: &mut [u8]) -> u64
-    ensures { PrintedLine (answer_printed (reading_res reading) line.now) buf.old
+    ensures { PrintedLine (answer_printed reading line.now) buf.old
         buf.new result }
 {
     match reading {
-        Reading::Refused(_) => 0,
-        Reading::Accepted(seen) => match print_record(seen, seen.table(line), line, buf) {
-            Printed::Written(n) => n as u64,
-            Printed::Refused(_) => 0,
+        Err(_) => 0,
+        Ok(seen) => match print_record(seen, seen.table(line), line, buf) {
+            Ok(n) => n as u64,
+            Err(_) => 0,
         },
     }
 }
@@ -195,6 +186,7 @@ pub fn timed_print(log: &[u8], buf: &mut [u8]) -> u64
 {
     let mut sum: u64 = 0;
     let mut at = 0;
+    // A `while`, since it steps by what a line takes.
     while at < log.len() {
         let got = read_at(log, at);
         let part = got.line;

@@ -3,20 +3,21 @@
 ghost use Rattle.std.specs.Prelude.{◌≡◌};
 ghost use Rattle.bench_loops.specs.Moments.{of_first_of, of_moment_of, index_place, moment_sum};
 
-use hours::First;
 use moment::{find, find_by_walk, index_of};
 use moment_fix::Moment;
 use std::num::wrapping_add_u64;
 
-fn of_first(first: First) -> u64
+#[tactic(auto, unfolding(crate::specs::Moments::of_first_of))]
+fn of_first(first: Option<usize>) -> u64
     ensures { result ≡ of_first_of first }
 {
     match first {
-        First::Nowhere => 0,
-        First::At(place) => place as u64,
+        None => 0,
+        Some(place) => place as u64,
     }
 }
 
+#[tactic(auto, unfolding(crate::specs::Moments::of_moment_of))]
 fn of_moment(answer: Moment) -> u64
     ensures { result ≡ of_moment_of answer }
 {
@@ -28,6 +29,7 @@ fn of_moment(answer: Moment) -> u64
 }
 
 // The index of a log: what it holds for an hour.
+#[tactic(auto, unfolding(crate::specs::Moments::index_place, hours::specs::Hours::held_for, hours::specs::Hours::held))]
 pub fn timed_index(log: &[u8], hours: u8) -> u64
     ensures { result ≡ index_place log.now hours }
 {
@@ -42,30 +44,28 @@ pub fn timed_index(log: &[u8], hours: u8) -> u64
 }
 
 // The same, and a question for each minute of the hour.
+#[tactic(auto, unfolding(crate::specs::Moments::moment_sum))]
 pub fn timed_moments(log: &[u8], hours: u8, seconds: u8) -> u64
     ensures { result ≡ moment_sum 60 log.now hours seconds }
 {
     let index = index_of(log);
     let mut sum: u64 = 0;
-    let mut minutes: u8 = 0;
-    while minutes < 60 {
-        let answer = find(index, log, hours, minutes, seconds);
+    for minute in 0..60 {
+        let answer = find(index, log, hours, minute, seconds);
         sum = wrapping_add_u64(sum, of_moment(answer));
-        minutes += 1;
     }
     sum
 }
 
 // The same questions with no index.
+#[tactic(auto, unfolding(crate::specs::Moments::moment_sum))]
 pub fn timed_walks(log: &[u8], hours: u8, seconds: u8) -> u64
     ensures { result ≡ moment_sum 60 log.now hours seconds }
 {
     let mut sum: u64 = 0;
-    let mut minutes: u8 = 0;
-    while minutes < 60 {
-        let answer = find_by_walk(log, hours, minutes, seconds);
+    for minute in 0..60 {
+        let answer = find_by_walk(log, hours, minute, seconds);
         sum = wrapping_add_u64(sum, of_moment(answer));
-        minutes += 1;
     }
     sum
 }

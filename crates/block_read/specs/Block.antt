@@ -1,15 +1,16 @@
 -- The block of all logs read from a sheet, line by line, each in the form in which it is printed.
-use Rattle.std.specs.Prelude.{◌+◌, ◌-◌, ◌∷◌, ◌++◌}
-use Rattle.text.specs.Prelude.{ℕ, zero, suc, code, Bool, true, false, List, [], length, drop, pick}
+use Rattle.span.specs.Spot.{GpsSpot, PressureSpot}
+use Rattle.std.specs.Prelude.{Result, ◌+◌, ◌-◌, ◌∷◌, ◌++◌}
+use Rattle.text.specs.Prelude.{ℕ, zero, suc, code, ok, no, Bool, true, false, List, [], length, drop, pick}
 use Rattle.text.specs.Prelude.{◌=?◌, LF, ℤ, largest}
 use Rattle.text.specs.Spelt.{spelt}
 use Rattle.report.specs.Range.{Range, none, between}
 use Rattle.report.specs.Counts.{numbers}
-use Rattle.span.specs.declared.{pressure.PressureSpot.PressureSpot, gps.GpsSpot.GpsSpot}
 use Rattle.total.specs.Total.{Totals, no_logs, total_in}
+use Rattle.total.specs.declared.Total.{Total}
+use Rattle.span.specs.declared.Spot.{Spot}
 use Rattle.sheet_text.specs.Sheet.{none_line}
 use Rattle.block_read.specs.Read.{Read, got, wrong, next, starts_with, read_words_of, read_number_of, read_height_of, read_line_of}
-use Rattle.block_read.specs.declared.BlockRead.{BlockRead}
 
 -- ---- lines
 
@@ -58,6 +59,19 @@ read_range line datum s =
     pick (starts_with (none_line datum) s) (got none (drop (length (none_line datum)) s))
     (next (line (datum ++ spelt " high ") s) (λ high r.
     next (line (datum ++ spelt " low ") r) (λ low q.
+    got (between high low) q)))
+
+-- What the code says of both datums at once: a height whose number f takes, and a range by its three words.
+unfoldable pub read_height_at : {H : Type 0} → (ℤ → H) → List ℕ → List ℕ → Read (Spot H)
+read_height_at f ws s =
+    next (read_spot_of ws s) (λ x r. got (record { log = x.1.0; place = x.1.1; height = f x.0 }) r)
+
+unfoldable pub range_by : {P : Type 0} → (List ℕ → List ℕ → Read P) → List ℕ → List ℕ → List ℕ → List ℕ →
+    Read (Range P)
+range_by line missing highest lowest s =
+    pick (starts_with missing s) (got none (drop (length missing) s))
+    (next (line highest s) (λ high r.
+    next (line lowest r) (λ low q.
     got (between high low) q)))
 
 -- A time of 32 bits behind its words.
@@ -114,5 +128,7 @@ block_in s (wrong r) = record { total = no_logs; end = length s - length r; good
 unfoldable pub block_of : List ℕ → Block
 block_of s = block_in s (read_all s)
 
-abbrev pub block_read : BlockRead → Block
-block_read b = record { total = total_in b.total; end = b.end; good = b.good }
+-- Beside a place from where on the text is wrong stands the total of no logs.
+abbrev pub block_read : Result (Total × ℕ) ℕ → Block
+block_read (ok b) = record { total = total_in b.0; end = b.1; good = true }
+block_read (no end) = record { total = no_logs; end = end; good = false }

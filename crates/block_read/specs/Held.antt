@@ -1,8 +1,9 @@
 -- What the code carries from reader to reader: a place, and whether all before it was as it should be.
+use Rattle.text.specs.Prelude.{None, Option, Some}
 use Rattle.std.specs.Prelude.{◌≤◌, ◌≡◌, ◌∷◌}
 use Rattle.text.specs.Prelude.{ℕ, List, [], length, drop, pick, ◌≤?◌, largest}
 use Rattle.block_read.specs.Read.{Read, got, wrong, front_from}
-use Rattle.block_read.specs.declared.{number.Place.Place, number.FrontRead.FrontRead}
+use Rattle.block_read.specs.declared.{number.Place.Place}
 
 -- A value that was read, with the text behind its place; or the text from where on it is wrong.
 unfoldable pub held_at : {A : Type 0} → List ℕ → Place → A → Read A
@@ -21,6 +22,6 @@ pub record Came {A : Type 0} (text : List ℕ) (from : Place) (read : List ℕ �
 unfoldable pub front_of : List ℕ → List ℕ
 front_of s = pick (front_from 0 s ≤? largest) (front_from 0 s ∷ []) []
 
-abbrev pub front_in : FrontRead → List ℕ
-front_in (FrontRead.Value n) = n ∷ []
-front_in FrontRead.TooLarge = []
+abbrev pub front_in : Option ℕ → List ℕ
+front_in (Some n) = n ∷ []
+front_in None = []

@@ -1,8 +1,8 @@
 -- Reading a block undoes printing it.
+use Rattle.span.specs.Spot.{GpsSpot, PressureSpot}
 use Rattle.std.specs.Prelude.{◌≤◌, ◌≡◌, ◌++◌}
 use Rattle.text.specs.Prelude.{ℕ, true, List, length, ℤ, pos, negsuc, largest}
 use Rattle.report.specs.Counts.{numbers}
-use Rattle.span.specs.declared.{pressure.PressureSpot.PressureSpot, gps.GpsSpot.GpsSpot}
 use Rattle.total.specs.Total.{Totals, total_fits}
 use Rattle.total.specs.Laws.{OfBoth}
 use Rattle.sheet_text.specs.Sheet.{all_text}
@@ -35,7 +35,7 @@ pub record InFields (t : Totals) : Type 0 where
   pub times : OfBoth (λ n. n ≤ 4294967295) t.figures.times
 
 pub record ReadsBack : Type 0 where
-  -- Reading what was printed gives the total, whatever stands behind it.
+  -- What was printed gives the total, whatever stands behind it.
   pub reads : (t : Totals) (r : List ℕ) → InFields t → read_all (all_text t ++ r) ≡ got t r
   -- What was read is what the total prints, and no other text is read as a total.
   pub printed : (s : List ℕ) (t : Totals) (r : List ℕ) → read_all s ≡ got t r → s ≡ all_text t ++ r

@@ -24,7 +24,7 @@ fn read_answer(text: &[u8], from: Place, answer: u64) -> NumberRead
             place: from,
         };
     }
-    let found = read_number(text, word, 0xffff_ffff_ffff_ffff, b' ');
+    let found = read_number(text, word, u64::MAX, b' ');
     let at_count = found.place;
     if !at_count.good {
         return NumberRead {
@@ -38,7 +38,7 @@ fn read_answer(text: &[u8], from: Place, answer: u64) -> NumberRead
             place: from,
         };
     }
-    let count = read_number(text, at_count, 0xffff_ffff_ffff_ffff, b'\n');
+    let count = read_number(text, at_count, u64::MAX, b'\n');
     if count.value == 0 {
         return NumberRead {
             value: 0,
@@ -55,12 +55,10 @@ pub(crate) fn read_answers(text: &[u8], from: Place) -> AnswersRead
 {
     let mut counts = [0u64; 13];
     let mut place = from;
-    let mut i: usize = 0;
-    while i < 13 {
+    for i in 0..13 {
         let row = read_answer(text, place, i as u64);
         counts[i] = row.value;
         place = row.place;
-        i += 1;
     }
     AnswersRead { counts, place }
 }

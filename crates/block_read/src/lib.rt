@@ -2,9 +2,8 @@
 #![tactic(auto)]
 
 mod answers;
-mod gps;
+mod heights;
 mod number;
-mod pressure;
 mod times;
 
 ghost use Rattle.std.specs.Prelude.{◌≤◌, ◌≡◌, length};
@@ -14,17 +13,10 @@ ghost use Rattle.block_read.specs.Block.{read_all, block_of, block_read};
 ghost use Rattle.block_read.specs.Held.{Came};
 
 use crate::answers::read_answers;
+use crate::heights::read_span;
 use crate::number::{Place, read_line, stands};
 use crate::times::read_times;
 use total::Total;
-
-// How many bytes were read; where they are no block, the text is wrong from there on, and this is the total of no logs.
-#[derive(Clone, Copy)]
-pub struct BlockRead {
-    pub total: Total,
-    pub end: usize,
-    pub good: bool,
-}
 
 // The total that was read, and the place behind it.
 #[derive(Clone, Copy)]
@@ -42,45 +34,46 @@ fn read_all(text: &[u8], from: Place) -> AllRead
     let lines = read_line(text, logs.place, b"lines ");
     let counts = read_answers(text, lines.place);
     let fixes = read_line(text, counts.place, b"fixes ");
-    let pressure = pressure::read_span(text, fixes.place);
-    let gps = gps::read_span(text, pressure.place);
+    let pressure = read_span(
+        text,
+        fixes.place,
+        b"pressure none\n",
+        b"pressure high ",
+        b"pressure low ",
+    );
+    let gps = read_span(
+        text,
+        pressure.place,
+        b"gps none\n",
+        b"gps high ",
+        b"gps low ",
+    );
     let times = read_times(text, gps.place);
     let answers = counts.counts;
-    let pressure_span = pressure.span;
-    let gps_span = gps.span;
-    let time_range = times.times;
     let total = Total {
         answers,
         logs: logs.value,
         lines: lines.value,
         fixes: fixes.value,
-        pressure: pressure_span,
-        gps: gps_span,
-        times: time_range,
+        pressure: pressure.span,
+        gps: gps.span,
+        times: times.times,
     };
     let place = times.place;
     AllRead { total, place }
 }
 
-// The block that a text begins with.
-pub fn read_block(text: &[u8]) -> BlockRead
+// The block that a text begins with, and the place behind it; or the place from where on the text is wrong.
+pub fn read_block(text: &[u8]) -> Result<(Total, usize), usize>
     ensures { block_read result ≡ block_of text.now }
 {
     let all = read_all(text, Place { at: 0, good: true });
-    let place = all.place;
-    if place.good {
-        let total = all.total;
-        return BlockRead {
-            total,
-            end: place.at,
-            good: true,
-        };
+    let end = all.place.at;
+    if !all.place.good {
+        return Err(end);
     }
-    BlockRead {
-        total: Total::new(),
-        end: place.at,
-        good: false,
-    }
+    let total = all.total;
+    Ok((total, end))
 }
 
 // The text begins with these words.

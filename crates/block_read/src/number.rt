@@ -8,7 +8,8 @@ ghost use Rattle.block_read.specs.Held.{Came, front_in, front_of};
 use print::number::put_nat;
 use put::put_byte;
 
-// A place in the text, and whether all before it was as it should be.
+// A place in the text, and whether all before it was as it should be. A Result is no plainer here: every reader says a
+// place in both cases, so each would hand it back twice, in Ok behind the value and in Err.
 #[derive(Clone, Copy)]
 pub(crate) struct Place {
     pub at: usize,
@@ -36,12 +37,6 @@ pub(crate) struct SpotRead {
     pub place: Place,
 }
 
-#[derive(Clone, Copy)]
-enum FrontRead {
-    Value(u64),
-    TooLarge,
-}
-
 // The text is not what should stand there.
 pub(crate) fn wrong_at(place: Place) -> Place
     ensures { result ≡ record { at = place.at; good = false } }
@@ -60,12 +55,10 @@ pub(crate) fn stands(text: &[u8], at: usize, words: &[u8]) -> bool
     if text.len() - at < words.len() {
         return false;
     }
-    let mut i: usize = 0;
-    while i < words.len() {
+    for i in 0..words.len() {
         if text[at + i] != words[i] {
             return false;
         }
-        i += 1;
     }
     true
 }
@@ -88,28 +81,26 @@ pub(crate) fn read_words(text: &[u8], from: Place, words: &[u8]) -> Place
 }
 
 // The value of the digits that stand there; none where it passes 64 bits.
-fn front(text: &[u8], at: usize) -> FrontRead
+fn front(text: &[u8], at: usize) -> Option<u64>
     requires { at ≤ length text.now }
     ensures { front_in result ≡ front_of (drop at text.now) }
 {
     let mut value: u64 = 0;
-    let mut i = at;
-    while i < text.len() {
-        let b = text[i] as u64;
-        if b < 48 {
-            return FrontRead::Value(value);
+    for i in at..text.len() {
+        let b = text[i];
+        if b < b'0' {
+            return Some(value);
         }
-        if 57 < b {
-            return FrontRead::Value(value);
+        if b'9' < b {
+            return Some(value);
         }
-        let digit = b - 48;
-        if (0xffff_ffff_ffff_ffff - digit) / 10 < value {
-            return FrontRead::TooLarge;
+        let digit = (b - b'0') as u64;
+        if (u64::MAX - digit) / 10 < value {
+            return None;
         }
         value = value * 10 + digit;
-        i += 1;
     }
-    FrontRead::Value(value)
+    Some(value)
 }
 
 // A number of at most `most`, as it prints, and the byte that closes it.
@@ -118,7 +109,7 @@ pub(crate) fn read_number(text: &[u8], from: Place, most: u64, close: u8) -> Num
     ensures came { Came text.now from (read_number_of most close) result.place result.value }
     ensures value_le_most { result.value ≤ most }
 {
-    let FrontRead::Value(value) = front(text, from.at) else {
+    let Some(value) = front(text, from.at) else {
         return NumberRead {
             value: 0,
             place: wrong_at(from),
@@ -173,7 +164,7 @@ pub(crate) fn read_line(text: &[u8], from: Place, words: &[u8]) -> NumberRead
     ensures { Came text.now from (read_line_of words.now) result.place result.value }
 {
     let at_number = read_words(text, from, words);
-    read_number(text, at_number, 0xffff_ffff_ffff_ffff, b'\n')
+    read_number(text, at_number, u64::MAX, b'\n')
 }
 
 // A line of words, a height and its place.
@@ -185,8 +176,8 @@ pub(crate) fn read_spot(text: &[u8], from: Place, words: &[u8]) -> SpotRead
     let at_height = read_words(text, from, words);
     let height = read_height(text, at_height);
     let at_log = read_words(text, height.place, b"at ");
-    let log = read_number(text, at_log, 0xffff_ffff_ffff_ffff, b':');
-    let offset = read_number(text, log.place, 0xffff_ffff_ffff_ffff, b'\n');
+    let log = read_number(text, at_log, u64::MAX, b':');
+    let offset = read_number(text, log.place, u64::MAX, b'\n');
     let place = offset.place;
     SpotRead {
         height: height.value,

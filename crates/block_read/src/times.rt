@@ -1,11 +1,12 @@
 // The earliest time and the latest.
 ghost use Rattle.std.specs.Prelude.{◌≤◌, length};
-ghost use Rattle.report.specs.Report.{times_in};
+ghost use Rattle.report.specs.Peak.{range_in};
 ghost use Rattle.block_read.specs.Block.{read_time_of, read_times_of};
 ghost use Rattle.block_read.specs.Held.{Came};
 
 use crate::number::{Place, read_number, read_words};
-use report::times::TimeRange;
+use report::peak::TimeRange;
+use report::range::Extremes;
 
 #[derive(Clone, Copy)]
 struct TimeRead {
@@ -26,33 +27,31 @@ fn read_time(text: &[u8], from: Place, words: &[u8]) -> TimeRead
 {
     let at_time = read_words(text, from, words);
     let time = read_number(text, at_time, 4294967295, b'\n');
-    let place = time.place;
     TimeRead {
         value: time.value as u32,
-        place,
+        place: time.place,
     }
 }
 
 // No times; or the earliest and then the latest.
 pub(crate) fn read_times(text: &[u8], from: Place) -> TimesRead
     requires { from.at ≤ length text.now }
-    ensures { Came text.now from read_times_of result.place (times_in result.times) }
+    ensures { Came text.now from read_times_of result.place (range_in result.times) }
 {
     let none = read_words(text, from, b"time none\n");
     if none.good {
         return TimesRead {
-            times: TimeRange::Missing,
+            times: None,
             place: none,
         };
     }
     let first = read_time(text, from, b"time first ");
     let last = read_time(text, first.place, b"time last ");
-    let place = last.place;
     TimesRead {
-        times: TimeRange::Between {
-            latest: last.value,
-            earliest: first.value,
-        },
-        place,
+        times: Some(Extremes {
+            high: last.value,
+            low: first.value,
+        }),
+        place: last.place,
     }
 }

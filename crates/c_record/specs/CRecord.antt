@@ -1,6 +1,8 @@
 -- C lines: which of them is a turnpoint's, and a task's declaration.
+use Rattle.date.specs.declared.Date.{Date}
+use Rattle.text.specs.Prelude.{None, Option, Some}
 use Rattle.std.specs.Prelude.{◌∷◌, ◌++◌}
-use Rattle.text.specs.Prelude.{ℕ, code, Bool, true, List, [], length, replicate, Res, ok, no, bind, guard}
+use Rattle.text.specs.Prelude.{ℕ, code, Bool, true, List, [], length, replicate, Res, ok, bind, guard}
 use Rattle.text.specs.Prelude.{pick, ◌≤?◌, ◌=?◌, ◌∧?◌, ◌∨?◌, byte, cut, columns, read_nat_of, read_int_of, zeros, padded}
 use Rattle.text.specs.Prelude.{signed}
 use Rattle.part.specs.Part.{name_from, maybe_text, maybe_bytes}
@@ -8,9 +10,8 @@ use Rattle.text.specs.declared.refusal.Refusal.TheVariants.{Syntax}
 use Rattle.field.specs.Field.{ascii_in}
 use Rattle.time.specs.Time.{read_time_of, time_text, time_book}
 use Rattle.date.specs.Date.{read_date, date_text, date_book}
-use Rattle.c_record.specs.declared.{MaybeDate.MaybeDate, FlightRead.FlightRead, Task.Task, TaskRead.TaskRead}
-use Rattle.c_record.specs.declared.{CRecordDeclaration.CRecordDeclaration, DeclarationRead.DeclarationRead}
-use Rattle.c_record.specs.declared.MaybeDate.TheVariants.{Missing, On}
+use Rattle.c_record.specs.declared.{Task.Task}
+use Rattle.c_record.specs.declared.{CRecordDeclaration.CRecordDeclaration}
 
 -- N or S at column 8 makes a turnpoint.
 unfoldable pub turns : List ℕ → Bool
@@ -19,8 +20,8 @@ turns s = (byte 8 s =? code "N") ∨? (byte 8 s =? code "S")
 -- ---- declarations
 
 -- A flight date; `000000` is none.
-unfoldable pub read_flight_of : List ℕ → Res MaybeDate
-read_flight_of s = pick (zeros s) (ok Missing) (bind (read_date s) (λ d. ok (On d)))
+unfoldable pub read_flight_of : List ℕ → Res (Option Date)
+read_flight_of s = pick (zeros s) (ok None) (bind (read_date s) (λ d. ok (Some d)))
 
 -- Task 19-23, count 23-25.
 unfoldable pub read_task_of : List ℕ → Res Task
@@ -50,9 +51,9 @@ read_declaration s =
     }))))))))
 
 -- A flight date; six zeros for none.
-unfoldable pub flight_text : MaybeDate → List ℕ
-flight_text Missing = replicate 6 (code "0")
-flight_text (On d) = date_text d
+unfoldable pub flight_text : Option Date → List ℕ
+flight_text None = replicate 6 (code "0")
+flight_text (Some d) = date_text d
 
 -- Flight date, task in width 4, count in 2, name.
 unfoldable pub task_text : CRecordDeclaration → List ℕ → List ℕ
@@ -72,24 +73,10 @@ unfoldable pub declaration_text : CRecordDeclaration → List ℕ → Res (List 
 declaration_text r s = bind (maybe_text r.task_name s) (λ name. ok (declaration_body r name))
 
 -- No flight date passes.
-unfoldable pub flight_book : MaybeDate → Bool
-flight_book Missing = true
-flight_book (On d) = date_book d
+unfoldable pub flight_book : Option Date → Bool
+flight_book None = true
+flight_book (Some d) = date_book d
 
 -- By the book: its dates and its time are.
 unfoldable pub declaration_book : CRecordDeclaration → Bool
 declaration_book r = date_book r.date ∧? time_book r.time ∧? flight_book r.flight_date
-
--- ---- the answers of the code
-
-abbrev pub flight_res : FlightRead → Res MaybeDate
-flight_res (FlightRead.Ok v) = ok v
-flight_res (FlightRead.Refused n) = no n
-
-abbrev pub task_res : TaskRead → Res Task
-task_res (TaskRead.Ok v) = ok v
-task_res (TaskRead.Refused n) = no n
-
-abbrev pub declaration_res : DeclarationRead → Res CRecordDeclaration
-declaration_res (DeclarationRead.Ok v) = ok v
-declaration_res (DeclarationRead.Refused n) = no n

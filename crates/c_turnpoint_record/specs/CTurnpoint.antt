@@ -1,12 +1,12 @@
 -- C lines: a turnpoint of a task.
 use Rattle.std.specs.Prelude.{◌∷◌, ◌++◌}
-use Rattle.text.specs.Prelude.{ℕ, code, Bool, List, [], length, Res, ok, no, bind, guard, ◌≤?◌, ◌=?◌}
+use Rattle.text.specs.Prelude.{ℕ, code, Bool, List, [], length, Res, ok, bind, guard, ◌≤?◌, ◌=?◌}
 use Rattle.text.specs.Prelude.{byte, cut, columns}
 use Rattle.part.specs.Part.{name_from, maybe_text, maybe_bytes}
 use Rattle.text.specs.declared.refusal.Refusal.TheVariants.{Syntax}
 use Rattle.field.specs.Field.{ascii_in}
 use Rattle.position.specs.Position.{read_position, position_text, position_book}
-use Rattle.c_turnpoint_record.specs.declared.{CRecordTurnpoint.CRecordTurnpoint, TurnpointRead.TurnpointRead}
+use Rattle.c_turnpoint_record.specs.declared.{CRecordTurnpoint.CRecordTurnpoint}
 
 -- 18 bytes (1), the first C (1), those ASCII (2), position 1-18, name; an empty name is none.
 unfoldable pub read_turnpoint : List ℕ → Res CRecordTurnpoint
@@ -32,9 +32,3 @@ turnpoint_text r s = bind (maybe_text r.turnpoint_name s) (λ name. ok (turnpoin
 -- By the book: its position is.
 unfoldable pub turnpoint_book : CRecordTurnpoint → Bool
 turnpoint_book r = position_book r.position
-
--- ---- the answers of the code
-
-abbrev pub turnpoint_res : TurnpointRead → Res CRecordTurnpoint
-turnpoint_res (TurnpointRead.Ok v) = ok v
-turnpoint_res (TurnpointRead.Refused n) = no n

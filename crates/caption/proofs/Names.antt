@@ -1,4 +1,6 @@
 -- A name that is shown: how long it is, and what that tells of the caption.
+use Rattle.part.specs.declared.Part.{Part}
+use Rattle.text.specs.Prelude.{None, Option, Some}
 use denote.Ref.{Bor}
 use Rattle.text.specs.Prelude.{ℕ, ◌+◌, ◌≤◌, ◌<◌, ◌≡◌, Bool, true, false, List, length, drop, guard, pick, ◌≤?◌}
 use native.Mathlib.Omega.{arith}
@@ -7,16 +9,15 @@ use lib.ListN.{length-drop}
 use lib.Seq.{length-take-le}
 use borrow.Author.Tests.{le-leb, lt-leb, leb-true}
 use Rattle.part.specs.Part.{bytes_of, find_part, find_maybe, maybe_bytes, shown, Shows}
-use Rattle.part.specs.declared.MaybePart.{MaybePart}
 use Rattle.c_turnpoint_record.specs.declared.CRecordTurnpoint.{CRecordTurnpoint}
 use Rattle.igc_log.specs.Log.{chunks}
 use Rattle.caption.specs.Caption.{nth, caption_of, ShowsOne}
 
 -- what is shown of a name lies inside the line
-shown_inside : (m : MaybePart) (s : List ℕ) → (shown (find_maybe m s)).start + (shown (find_maybe m s)).len ≤ length s
+shown_inside : (m : (Option Part)) (s : List ℕ) → (shown (find_maybe m s)).start + (shown (find_maybe m s)).len ≤ length s
 unfolding find_maybe find_part shown guard ◌≤?◌
-shown_inside MaybePart.Missing s = omega arith
-shown_inside (MaybePart.At p) s = by (p.start + p.len ≤? length s) refl
+shown_inside None s = omega arith
+shown_inside (Some p) s = by (p.start + p.len ≤? length s) refl
   where
     by : (t : Bool) → (p.start + p.len ≤? length s) ≡ t →
         (shown (find_part p s)).start + (shown (find_part p s)).len ≤ length s
@@ -24,7 +25,7 @@ shown_inside (MaybePart.At p) s = by (p.start + p.len ≤? length s) refl
     by false e = rw e (omega arith)
 
 -- so its bytes are as many as it says
-pub shown_length : (m : MaybePart) (s : List ℕ) → length (maybe_bytes m s) ≡ (shown (find_maybe m s)).len
+pub shown_length : (m : (Option Part)) (s : List ℕ) → length (maybe_bytes m s) ≡ (shown (find_maybe m s)).len
 unfolding bytes_of
 shown_length m s =
     let p = shown (find_maybe m s) in

@@ -7,25 +7,22 @@ ghost use Rattle.caption.specs.Caption.{nth, caption_of, ShowsOne};
 
 use ahead::cut_ahead;
 use c_turnpoint_record::CRecordTurnpoint;
-use part::Part;
+use part::{InLine, Part};
 
 // The n-th line of a text, from 1, which lies inside it; the empty part at its start where it has fewer.
 fn nth_line(text: &[u8], n: usize) -> Part
     ensures { (result ≡ nth 0 n (chunks text.now)) × (result.start + result.len ≤ length text.now) }
 {
-    if n == 0 {
-        return Part { start: 0, len: 0 };
-    }
     let mut at = 0;
-    let mut left = n;
-    while at < text.len() {
+    for k in 1..=n {
+        if text.len() <= at {
+            break;
+        }
         let cut = cut_ahead(text, at);
-        if left == 1 {
-            let line = cut.line;
-            return line;
+        if k == n {
+            return cut.line;
         }
         at = cut.next;
-        left -= 1;
     }
     Part { start: 0, len: 0 }
 }

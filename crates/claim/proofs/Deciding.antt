@@ -1,5 +1,5 @@
 -- The walk decides the claim: at each line it holds what the lines before it come to.
-use Rattle.text.specs.Prelude.{ℕ, suc, code, ◌+◌, ◌≤◌, ◌≡◌, Bool, true, false, not, List, [], ◌∷◌, ◌++◌, length, take}
+use Rattle.text.specs.Prelude.{ℕ, suc, code, ◌+◌, ◌≡◌, Bool, true, false, not, List, [], ◌∷◌, ◌++◌, length, take}
 use Rattle.text.specs.Prelude.{pick, ◌≤?◌, ◌=?◌, ◌∧?◌, ◌∨?◌}
 use Rattle.text.proofs.Prelude.{arith, refl, sym, ap, ◌∙◌, append-nil, append_assoc, length-append, take_at, and, both}
 use Rattle.text.proofs.Prelude.{first, second, no=, by_test, never}

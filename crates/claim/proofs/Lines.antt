@@ -1,4 +1,6 @@
 -- Each rule with one line more, and so at which line it fails.
+use Rattle.b_record.specs.declared.BRecord.{BRecord}
+use Rattle.text.specs.Prelude.{None, Option, Some}
 use Rattle.text.specs.Prelude.{ℕ, code, ◌+◌, ◌≡◌, Bool, true, false, not, List, [], ◌∷◌, ◌++◌, pick, ◌≤?◌, ◌=?◌}
 use Rattle.text.specs.Prelude.{◌∧?◌, ◌∨?◌}
 use Rattle.text.proofs.Prelude.{arith, refl, sym, ◌∙◌, append-nil, append_assoc, yes≤, no≤, no=}
@@ -7,7 +9,6 @@ use native.Mathlib.Nat.{add-zero, zero-add}
 use Rattle.text.proofs.Steps as steps
 use Rattle.field.proofs.Every.{∧?-assoc}
 use Rattle.records.specs.Record.{answer_fix}
-use Rattle.records.specs.declared.MaybeFix.{MaybeFix}
 use Rattle.report.specs.Figures.{earlier}
 use Rattle.report.specs.Report.{of_fix_of, time_at, shown}
 use Rattle.walk.specs.Readings.{LineReading}
@@ -89,21 +90,21 @@ unfolding times_of shown
 times_more [] x = append-nil (time_in x)
 times_more (y ∷ xs) x = rw (times_more xs x, append_assoc)
 
-one_back : (s p : ℕ) (m : MaybeFix) → backs_after s (of_fix_of (time_at p) m) ≡ pick (goes_back_of s m) 1 0
+one_back : (s p : ℕ) (m : (Option BRecord)) → backs_after s (of_fix_of (time_at p) m) ≡ pick (goes_back_of s m) 1 0
 unfolding of_fix_of time_at backs_after goes_back_of pick
-one_back s p MaybeFix.Missing = refl
-one_back s p (MaybeFix.Fix b) = add-zero _
+one_back s p None = refl
+one_back s p (Some b) = add-zero _
 
 -- the step asks it of the second alone
-pub goes_back : (s : ℕ) (m : MaybeFix) → comes_before s (second_in_of m) ≡ goes_back_of s m
+pub goes_back : (s : ℕ) (m : (Option BRecord)) → comes_before s (second_in_of m) ≡ goes_back_of s m
 unfolding comes_before second_in_of goes_back_of
-goes_back s MaybeFix.Missing = refl
-goes_back s (MaybeFix.Fix b) = refl
+goes_back s None = refl
+goes_back s (Some b) = refl
 
-one_last : (s p : ℕ) (m : MaybeFix) → last_after s (of_fix_of (time_at p) m) ≡ last_with_of s (second_in_of m)
+one_last : (s p : ℕ) (m : (Option BRecord)) → last_after s (of_fix_of (time_at p) m) ≡ last_with_of s (second_in_of m)
 unfolding of_fix_of time_at last_after last_with_of second_in_of
-one_last s p MaybeFix.Missing = refl
-one_last s p (MaybeFix.Fix b) = refl
+one_last s p None = refl
+one_last s p (Some b) = refl
 
 pub backs_more : (xs : List LineReading) (x : LineReading) →
     steps_back (times_of (xs ++ (x ∷ [])))

@@ -1,5 +1,5 @@
 -- Tests put together.
-use Rattle.text.specs.Prelude.{ℕ, ◌+◌, ◌≤◌, ◌≡◌, Bool, true, false, not, pick, ◌≤?◌, ◌∧?◌, ◌∨?◌}
+use Rattle.text.specs.Prelude.{ℕ, ◌+◌, ◌≡◌, Bool, true, false, not, pick, ◌≤?◌, ◌∧?◌, ◌∨?◌}
 use Rattle.text.proofs.Prelude.{arith, refl, sym, ◌∙◌, yes≤, no≤, is≤, isnt≤, by_test}
 use native.Mathlib.Nat.{add-zero}
 

@@ -1,11 +1,12 @@
 -- The rules of a record claim, in the order of the request, each a property of all readings of a log by itself; and at
 -- which line each fails.
+use Rattle.b_record.specs.declared.BRecord.{BRecord}
+use Rattle.text.specs.Prelude.{None, Option, Some}
 use Rattle.std.specs.Prelude.{◌+◌, ◌∷◌}
 use Rattle.text.specs.Prelude.{ℕ, code, Bool, true, false, not, List, [], length, pick, ◌≤?◌, ◌=?◌, ◌∧?◌}
 use Rattle.text.specs.Prelude.{◌∨?◌, begins}
 use Rattle.time.specs.Time.{seconds_of_lem}
 use Rattle.records.specs.Record.{answer_fix}
-use Rattle.records.specs.declared.MaybeFix.{MaybeFix}
 use Rattle.report.specs.Figures.{earlier}
 use Rattle.report.specs.Report.{time_at, shown}
 use Rattle.walk.specs.Readings.{LineReading}
@@ -97,9 +98,9 @@ unfoldable pub last_time : List LineReading → ℕ
 last_time xs = last_after 0 (times_of xs)
 
 -- The fix of a line, if it has one, is before the time s.
-unfoldable pub goes_back_of : ℕ → MaybeFix → Bool
-goes_back_of s MaybeFix.Missing = false
-goes_back_of s (MaybeFix.Fix b) = earlier (seconds_of_lem b.timestamp) s
+unfoldable pub goes_back_of : ℕ → Option BRecord → Bool
+goes_back_of s None = false
+goes_back_of s (Some b) = earlier (seconds_of_lem b.timestamp) s
 
 -- A line of a letter where one of it, or a B line, stands before.
 unfoldable pub is_again_of : ℕ → List LineReading → LineReading → Bool

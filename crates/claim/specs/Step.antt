@@ -1,4 +1,5 @@
 -- The walk that decides a claim line by line.
+use Rattle.text.specs.Prelude.{None, Option, Some}
 use Rattle.std.specs.Prelude.{◌+◌}
 use Rattle.text.specs.Prelude.{ℕ, Bool, true, false, not, List, length, pick, ◌≤?◌, ◌=?◌, ◌∧?◌, ◌∨?◌, largest}
 use Rattle.igc_log.specs.Log.{readings}
@@ -6,7 +7,7 @@ use Rattle.igc_log.specs.Fold.{over}
 use Rattle.report.specs.Figures.{earlier}
 use Rattle.walk.specs.Readings.{LineReading, reader}
 use Rattle.claim_line.specs.Asked.{asked_of}
-use Rattle.claim_line.specs.declared.{MaybeSecond.MaybeSecond, Asked.Asked}
+use Rattle.claim_line.specs.declared.{Asked.Asked}
 use Rattle.claim.specs.declared.{verdict.Rule.Rule, verdict.Verdict.Verdict, Sofar.Sofar}
 
 -- The verdict is yes.
@@ -41,9 +42,9 @@ unfoldable pub no_start : Sofar → Asked → Bool
 no_start c line = (c.lines =? 0) ∧? not line.a
 
 -- The second of a line's fix, if it has one, is before the time s.
-unfoldable pub comes_before : ℕ → MaybeSecond → Bool
-comes_before s MaybeSecond.Missing = false
-comes_before s (MaybeSecond.Second t) = earlier t s
+unfoldable pub comes_before : ℕ → Option ℕ → Bool
+comes_before s None = false
+comes_before s (Some t) = earlier t s
 
 -- The second time that goes back.
 unfoldable pub second_back : Sofar → Asked → Bool
@@ -61,9 +62,9 @@ line_verdict_of c line =
     Verdict.Yes)))))
 
 -- The last time, with that of a fix, if a line has one.
-unfoldable pub last_with_of : ℕ → MaybeSecond → ℕ
-last_with_of s MaybeSecond.Missing = s
-last_with_of s (MaybeSecond.Second t) = t
+unfoldable pub last_with_of : ℕ → Option ℕ → ℕ
+last_with_of s None = s
+last_with_of s (Some t) = t
 
 -- One line more has passed.
 unfoldable pub passed : Sofar → Asked → Sofar

@@ -10,11 +10,11 @@ ghost use Rattle.igc_log.specs.Log.{readings};
 ghost use Rattle.igc_log.specs.Fold.{over};
 ghost use Rattle.walk.specs.Readings.{reader};
 ghost use Rattle.claim.specs.Claim.{claim_of};
-ghost use Rattle.claim.specs.Step.{fresh, comes_before, seen_again, out_of_place, line_verdict_of, last_with_of, passed};
-ghost use Rattle.claim.specs.Step.{no_start, second_back, judged, claim_step, claim_on_of, verdict_at_end};
+ghost use Rattle.claim.specs.Step.{fresh, comes_before, seen_again, out_of_place, line_verdict_of, last_with_of};
+ghost use Rattle.claim.specs.Step.{passed, no_start, second_back, judged, claim_step, claim_on_of, verdict_at_end};
 
 use crate::verdict::{Rule, Verdict};
-use claim_line::{Asked, MaybeSecond, ask_at};
+use claim_line::{Asked, ask_at};
 
 // What goes from line to line: how many passed, the last time, whether one went back, whether an I, a J or a B line was
 // seen; and the verdict so far, which is yes until a line fails.
@@ -38,44 +38,38 @@ fn no(line: u64, rule: Rule) -> Verdict
 fn either(one: bool, other: bool) -> bool
     ensures { result ≡ (one ∨? other) }
 {
-    if one {
-        return true;
-    }
-    other
+    one || other
 }
 
 // The second of a fix is before the last one; an equal one is not.
-fn goes_back(last: u32, second: MaybeSecond) -> bool
+#[tactic(auto, unfolding(crate::specs::Step::comes_before, report::specs::Figures::earlier))]
+fn goes_back(last: u32, second: Option<u32>) -> bool
     ensures { result ≡ comes_before last second }
 {
     match second {
-        MaybeSecond::Second(time) => time < last,
-        MaybeSecond::Missing => false,
+        Some(time) => time < last,
+        None => false,
     }
 }
 
 // The last time, after this line.
-fn last_with(last: u32, second: MaybeSecond) -> u32
+#[tactic(auto, unfolding(crate::specs::Step::last_with_of))]
+fn last_with(last: u32, second: Option<u32>) -> u32
     ensures { result ≡ last_with_of last second }
 {
-    match second {
-        MaybeSecond::Second(time) => time,
-        MaybeSecond::Missing => last,
-    }
+    second.unwrap_or(last)
 }
 
 // A line of a letter where one of it, or a B line, was seen.
 fn is_again(here: bool, one: bool, b: bool) -> bool
     ensures { result ≡ seen_again here one b }
 {
-    if here {
-        return either(one, b);
-    }
-    false
+    here && either(one, b)
 }
 
 impl Sofar {
     // Before the first line.
+    #[tactic(auto, unfolding(crate::specs::Step::fresh))]
     pub fn new() -> Sofar
         ensures { result ≡ fresh }
     {
@@ -94,31 +88,24 @@ impl Sofar {
     fn is_out_of_place(self, line: Asked) -> bool
         ensures { result ≡ out_of_place self line }
     {
-        if is_again(line.i, self.i, self.b) {
-            return true;
-        }
-        is_again(line.j, self.j, self.b)
+        either(
+            is_again(line.i, self.i, self.b),
+            is_again(line.j, self.j, self.b),
+        )
     }
 
     // The first line, and no A line.
     fn is_no_start(self, line: Asked) -> bool
         ensures { result ≡ no_start self line }
     {
-        if self.lines != 0 {
-            return false;
-        }
-        !line.a
+        self.lines == 0 && !line.a
     }
 
     // The second time that goes back.
     fn is_second_back(self, line: Asked) -> bool
         ensures { result ≡ second_back self line }
     {
-        let second = line.second;
-        if self.back {
-            return goes_back(self.last, second);
-        }
-        false
+        self.back && goes_back(self.last, line.second)
     }
 
     // The first rule that a line breaks which follows on those that passed.
@@ -149,23 +136,19 @@ impl Sofar {
     }
 
     // One line more has passed.
+    #[tactic(auto, unfolding(crate::specs::Step::passed))]
     fn pass(self, line: Asked) -> Sofar
         requires { self.lines < largest }
         ensures { result ≡ passed self line }
     {
-        let second = line.second;
-        let back = either(self.back, goes_back(self.last, second));
-        let i = either(self.i, line.i);
-        let j = either(self.j, line.j);
-        let b = either(self.b, line.b);
         Sofar {
             verdict: Verdict::Yes,
             lines: self.lines + 1,
-            last: last_with(self.last, second),
-            back,
-            i,
-            j,
-            b,
+            last: last_with(self.last, line.second),
+            back: either(self.back, goes_back(self.last, line.second)),
+            i: either(self.i, line.i),
+            j: either(self.j, line.j),
+            b: either(self.b, line.b),
         }
     }
 
@@ -178,24 +161,15 @@ impl Sofar {
         if verdict.is_yes() {
             return self.pass(line);
         }
-        Sofar {
-            verdict,
-            lines: self.lines,
-            last: self.last,
-            back: self.back,
-            i: self.i,
-            j: self.j,
-            b: self.b,
-        }
+        Sofar { verdict, ..self }
     }
 
     // The verdict, where these were all lines: without any, the first fails.
     pub fn at_end(self) -> Verdict
         ensures { result ≡ verdict_at_end self }
     {
-        let verdict = self.verdict;
-        if !verdict.is_yes() {
-            return verdict;
+        if !self.verdict.is_yes() {
+            return self.verdict;
         }
         if self.lines == 0 {
             return no(1, Rule::First);
@@ -204,7 +178,7 @@ impl Sofar {
     }
 }
 
-// A line at a time, up to the first that fails.
+// A line at a time, up to the first that fails. Each turn steps by the line that it reads: no `for` has these places.
 fn claim_from(before: Sofar, piece: &[u8]) -> Sofar
     requires { before.lines + length piece.now ≤ largest }
     ensures { result ≡ over claim_step before (readings reader piece.now) }
@@ -212,13 +186,11 @@ fn claim_from(before: Sofar, piece: &[u8]) -> Sofar
     let mut sofar = before;
     let mut at = 0;
     while at < piece.len() {
-        let verdict = sofar.verdict;
-        if !verdict.is_yes() {
+        if !sofar.verdict.is_yes() {
             return sofar;
         }
         let here = ask_at(piece, at);
-        let line = here.asked;
-        sofar = sofar.after(line);
+        sofar = sofar.after(here.asked);
         at = here.next;
     }
     sofar
@@ -238,6 +210,5 @@ pub fn claim_on(before: Sofar, piece: &[u8]) -> Sofar
 pub fn claim(log: &[u8]) -> Verdict
     ensures { result ≡ claim_of (readings reader log.now) }
 {
-    let sofar = claim_on(Sofar::new(), log);
-    sofar.at_end()
+    claim_on(Sofar::new(), log).at_end()
 }

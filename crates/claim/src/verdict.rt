@@ -15,6 +15,7 @@ pub enum Rule {
 }
 
 // All rules hold; or the first line at which one fails, counted from 1, and the first rule that fails there.
+// A verdict's two words: a no is an answer and no error, so that it is no `Result`.
 #[derive(Clone, Copy)]
 pub enum Verdict {
     Yes,
@@ -23,12 +24,13 @@ pub enum Verdict {
 
 impl Verdict {
     // Nothing fails.
+    #[tactic(auto, unfolding(crate::specs::Step::is_yes))]
     pub fn is_yes(self) -> bool
         ensures { result ≡ is_yes self }
     {
         match self {
             Verdict::Yes => true,
-            Verdict::No { line: _, rule: _ } => false,
+            Verdict::No { .. } => false,
         }
     }
 }

@@ -1,11 +1,13 @@
 -- What a record claim asks of one line.
+use Rattle.b_record.specs.declared.BRecord.{BRecord}
+use Rattle.text.specs.Prelude.{None, Option, Some}
 use Rattle.text.specs.Prelude.{ℕ, code, Bool, true, List, length, Res, ok, no, ◌≤?◌, ◌=?◌, begins}
 use Rattle.part.specs.Part.{part_bytes}
 use Rattle.time.specs.Time.{seconds_of_lem}
 use Rattle.records.specs.Record.{read_line_of, record_book, answered, answer_fix}
-use Rattle.records.specs.declared.{Record.Record, MaybeFix.MaybeFix}
+use Rattle.records.specs.declared.{Record.Record}
 use Rattle.igc_log.specs.Line.{cut_at}
-use Rattle.claim_line.specs.declared.{MaybeSecond.MaybeSecond, Asked.Asked, AskedAt.AskedAt}
+use Rattle.claim_line.specs.declared.{Asked.Asked, AskedAt.AskedAt}
 
 -- Its answer is 0; 12 is not accepted here.
 unfoldable pub is_accepted_of : Res Record → Bool
@@ -17,9 +19,9 @@ is_book_of (ok r) = record_book r
 is_book_of (no n) = true
 
 -- The seconds since midnight of a fix, if there is one.
-unfoldable pub second_in_of : MaybeFix → MaybeSecond
-second_in_of MaybeFix.Missing = MaybeSecond.Missing
-second_in_of (MaybeFix.Fix b) = MaybeSecond.Second (seconds_of_lem b.timestamp)
+unfoldable pub second_in_of : Option BRecord → Option ℕ
+second_in_of None = None
+second_in_of (Some b) = Some (seconds_of_lem b.timestamp)
 
 -- What is asked of a line with that text and that answer.
 unfoldable pub asked_of : List ℕ → Res Record → Asked

@@ -2,19 +2,13 @@
 #![tactic(auto)]
 
 ghost use Rattle.std.specs.Prelude.{◌≡◌};
-ghost use Rattle.records.specs.Record.{reading_res, answer_fix};
+ghost use Rattle.records.specs.Record.{answer_fix};
 ghost use Rattle.claim_line.specs.Asked.{is_accepted_of, is_book_of, second_in_of, asked_of, asked_at_of};
 
-use records::{MaybeFix, Reading};
+use part::InLine;
+use records::{Reading, answer_number, fix_in};
 use text::line::begins;
 use walk::turn::read_at;
-
-// The second of the day of a line's fix, if it has one.
-#[derive(Clone, Copy)]
-pub enum MaybeSecond {
-    Second(u32),
-    Missing,
-}
 
 // Whether it begins with A, with I, with J, with B; has at most 76 bytes; is accepted; by the book; and its second.
 #[derive(Clone, Copy)]
@@ -26,7 +20,7 @@ pub struct Asked {
     pub short: bool,
     pub accepted: bool,
     pub book: bool,
-    pub second: MaybeSecond,
+    pub second: Option<u32>,
 }
 
 // The same of the line at a place, and the place after it.
@@ -38,56 +32,43 @@ pub struct AskedAt {
 
 // 12 is not accepted here.
 fn is_accepted(reading: Reading) -> bool
-    ensures { result ≡ is_accepted_of (reading_res reading) }
+    ensures { result ≡ is_accepted_of reading }
 {
-    match reading {
-        Reading::Accepted(record) => record.number() == 0,
-        Reading::Refused(_) => false,
-    }
+    let number = answer_number(reading);
+    number == 0
 }
 
 // What was accepted is by the book.
+#[tactic(auto, unfolding(crate::specs::Asked::is_book_of))]
 fn is_book(reading: Reading) -> bool
-    ensures { result ≡ is_book_of (reading_res reading) }
+    ensures { result ≡ is_book_of reading }
 {
     match reading {
-        Reading::Accepted(record) => record.by_the_book(),
-        Reading::Refused(_) => true,
+        Ok(record) => record.by_the_book(),
+        Err(_) => true,
     }
 }
 
-fn second_in(reading: Reading) -> MaybeSecond
-    ensures { result ≡ second_in_of (answer_fix (reading_res reading)) }
+#[tactic(auto, unfolding(crate::specs::Asked::second_in_of))]
+fn second_in(reading: Reading) -> Option<u32>
+    ensures { result ≡ second_in_of (answer_fix reading) }
 {
-    match reading.fix() {
-        MaybeFix::Fix(fix) => {
-            let time = fix.timestamp;
-            MaybeSecond::Second(time.seconds_since_midnight())
-        }
-        MaybeFix::Missing => MaybeSecond::Missing,
-    }
+    let fix = fix_in(reading)?;
+    Some(fix.timestamp.seconds_since_midnight())
 }
 
 fn ask(line: &[u8], reading: Reading) -> Asked
-    ensures { result ≡ asked_of line.now (reading_res reading) }
+    ensures { result ≡ asked_of line.now reading }
 {
-    let a = begins(b'A', line);
-    let i = begins(b'I', line);
-    let j = begins(b'J', line);
-    let b = begins(b'B', line);
-    let short = line.len() <= 76;
-    let accepted = is_accepted(reading);
-    let book = is_book(reading);
-    let second = second_in(reading);
     Asked {
-        a,
-        i,
-        j,
-        b,
-        short,
-        accepted,
-        book,
-        second,
+        a: begins(b'A', line),
+        i: begins(b'I', line),
+        j: begins(b'J', line),
+        b: begins(b'B', line),
+        short: line.len() <= 76,
+        accepted: is_accepted(reading),
+        book: is_book(reading),
+        second: second_in(reading),
     }
 }
 
@@ -96,11 +77,8 @@ pub fn ask_at(log: &[u8], at: usize) -> AskedAt
     ensures { result ≡ asked_at_of at log.now }
 {
     let got = read_at(log, at);
-    let part = got.line;
-    let reading = got.reading;
-    let asked = ask(part.view(log), reading);
     AskedAt {
-        asked,
+        asked: ask(got.line.view(log), got.reading),
         next: got.next,
     }
 }

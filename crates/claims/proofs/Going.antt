@@ -1,5 +1,6 @@
 -- A log judged from read to read.
-use Rattle.text.specs.Prelude.{ℕ, zero, suc, ◌+◌, ◌-◌, ◌≤◌, ◌≡◌, Bool, true, false, not, List, [], ◌∷◌, ◌++◌, length}
+use Rattle.std.specs.Prelude.{Option, Some, None, is_none, Result, Ok, Err}
+use Rattle.text.specs.Prelude.{ℕ, zero, suc, ◌-◌, ◌≤◌, ◌≡◌, true, false, List, [], ◌∷◌, ◌++◌, length}
 use Rattle.text.specs.Prelude.{take, pick, ◌=?◌, LF}
 use Rattle.text.proofs.Prelude.{arith, refl, sym, ◌∙◌, append_assoc, take_all, first, second, no≤, is≤}
 use Rattle.text.proofs.Prelude.{is=, by_test, never}
@@ -8,7 +9,8 @@ use Rattle.igc_log.specs.Log.{chunks, closed, read_from, readings}
 use Rattle.igc_log.specs.Fold.{over}
 use Rattle.window.specs.Piece.{grow, whole_length_of, piece_end_of}
 use Rattle.window.proofs.Wholes.{whole_le, whole_closed}
-use Rattle.files.specs.declared.{input.Filled.Filled, outcome.Outcome.Outcome}
+use Rattle.files.specs.Outcome.{Outcome}
+use Rattle.files.specs.declared.{input.Filled.Filled, input.NotRead.NotRead, outcome.Failure.Failure}
 use Rattle.walk.specs.Readings.{reader}
 use Rattle.claim.specs.Step.{fresh, claim_step, claim_on_of}
 use Rattle.claim.specs.declared.Sofar.{Sofar}
@@ -23,12 +25,13 @@ use Rattle.claims.specs.declared.Turn.{Turn}
 -- ---- a turn
 
 -- where no read is to follow, the window is as it was
-pub unmoved : {more : Bool} (w : List ℕ) → more ≡ false → w ≡ window_after more w
+pub unmoved : (ended : Option Outcome) (w : List ℕ) → is_none ended ≡ false → w ≡ window_after ended w
 unfolding window_after
-unmoved w e = second _ e refl
+unmoved None w e = never refl e
+unmoved (Some o) w e = refl
 
 -- none follows the last piece
-pub last_is_last : (c : Sofar) (lines : List ℕ) → (last_turn c lines).more ≡ false
+pub last_is_last : (c : Sofar) (lines : List ℕ) → is_none (last_turn c lines).ended ≡ false
 unfolding last_turn stopped pick
 last_is_last c lines = by_test (has_room_of c lines) (λ e. rw e) (λ e. rw e)
 
@@ -40,7 +43,7 @@ leaving_inside w = by_test (whole_length_of w =? 0) (λ e. rw e (omega arith)) (
 -- what leaves a full window was taken, and the rest is kept
 pub front_taken : (c : Sofar) (w : List ℕ) (n : ℕ) {t : Sofar} {k : ℕ} → has_room_of c (take n w) ≡ true →
     t ≡ claim_on_of c (take n w) → k ≡ length w - n →
-    ◌≡◌ {A = Turn} (record { sofar = t; fill = k; more = true; outcome = Outcome.Done }) (take_front c w n)
+    ◌≡◌ {A = Turn} (record { sofar = t; fill = k; ended = None }) (take_front c w n)
 unfolding take_front
 front_taken c w n h e f = first _ h (rw (e, f))
 
@@ -74,11 +77,6 @@ nothing_follows c = refl
 -- before the first read
 pub at_start : Going fresh
 at_start = record { bytes = []; made = λ rest. refl }
-
--- and where more is, as the code tests it
-pub goes_more : {A : Type 0} {more : Bool} → not more ≡ false → (more ≡ true → A) → A
-goes_more {more = true} h g = g refl
-goes_more {more = false} h g = never refl h
 
 module _ {c : Sofar} (g : Going c) where
   -- the last lines were taken
@@ -118,7 +116,7 @@ module _ {c : Sofar} (g : Going c) where
 
   -- a turn was made
   abbrev Gone : Turn → Type 0
-  Gone t = Judged t.sofar × (t.more ≡ true → Going t.sofar)
+  Gone t = Judged t.sofar × (is_none t.ended ≡ true → Going t.sofar)
 
   gone_stopped : (o : Outcome) → Gone (stopped c o)
   unfolding stopped
@@ -129,7 +127,7 @@ module _ {c : Sofar} (g : Going c) where
   gone_last lines =
       by_test (has_room_of c lines)
       (λ e. rw (e, on_taken c lines (is≤ e)) (judged_last lines, λ h. never h refl))
-      (λ e. rw e (gone_stopped Outcome.NotRead))
+      (λ e. rw e (gone_stopped (Err Failure.NotRead)))
 
   gone_full : (w : List ℕ) → 78 ≤ length w → Gone (full_turn c w)
   unfolding full_turn take_front pick has_room_of
@@ -137,11 +135,10 @@ module _ {c : Sofar} (g : Going c) where
       let s = take (leaving w) w in
       by_test (has_room_of c s)
       (λ e. rw (e, on_taken c s (is≤ e)) (judged_last s, λ m. going_left w h))
-      (λ e. rw e (gone_stopped Outcome.NotRead))
+      (λ e. rw e (gone_stopped (Err Failure.NotRead)))
 
   -- however far the window was filled
-  pub goes_turned : (f : Filled) (w : List ℕ) → 78 ≤ length w → Gone (turned f c w)
-  unfolding turned
-  goes_turned (Filled.Ended n) w h = gone_last (take n w)
-  goes_turned Filled.Full w h = gone_full w h
-  goes_turned Filled.Failed w h = gone_stopped Outcome.NotRead
+  pub goes_turned : (f : Result Filled NotRead) (w : List ℕ) → 78 ≤ length w → Gone (turned f c w)
+  goes_turned (Ok (Filled.Ended n)) w h = gone_last (take n w)
+  goes_turned (Ok Filled.Full) w h = gone_full w h
+  goes_turned (Err e) w h = gone_stopped (Err Failure.NotRead)

@@ -1,12 +1,13 @@
 -- What is taken of a log that goes through a window to be judged as a claim.
-use Rattle.std.specs.Prelude.{◌+◌, ◌-◌, ◌≡◌, ◌++◌}
-use Rattle.text.specs.Prelude.{ℕ, Bool, true, false, List, length, take, drop, pick, ◌≤?◌, ◌=?◌}
+use Rattle.std.specs.Prelude.{◌+◌, ◌-◌, ◌≡◌, ◌++◌, Option, Some, None, Result, Ok, Err}
+use Rattle.text.specs.Prelude.{ℕ, Bool, false, List, length, take, drop, pick, ◌≤?◌, ◌=?◌}
 use Rattle.text.specs.Prelude.{largest}
 use Rattle.std.proofs.lemmas.List.Edits.{sets}
 use Rattle.igc_log.specs.Log.{readings}
 use Rattle.igc_log.specs.Fold.{over}
 use Rattle.window.specs.Piece.{piece_end_of}
-use Rattle.files.specs.declared.{input.Filled.Filled, outcome.Outcome.Outcome}
+use Rattle.files.specs.Outcome.{Outcome}
+use Rattle.files.specs.declared.{input.Filled.Filled, input.NotRead.NotRead, outcome.Failure.Failure}
 use Rattle.walk.specs.Readings.{reader}
 use Rattle.claim.specs.Claim.{claim_of}
 use Rattle.claim.specs.Step.{fresh, claim_step, claim_on_of, verdict_at_end}
@@ -21,11 +22,11 @@ has_room_of c lines = c.lines + length lines ≤? largest
 
 -- No read is to follow.
 unfoldable pub stopped : Sofar → Outcome → Turn
-stopped c o = record { sofar = c; fill = 0; more = false; outcome = o }
+stopped c o = record { sofar = c; fill = 0; ended = Some o }
 
 -- After the last read all lines are taken; where they can't be, it was not read to its end.
 unfoldable pub last_turn : Sofar → List ℕ → Turn
-last_turn c lines = pick (has_room_of c lines) (stopped (claim_on_of c lines) Outcome.Done) (stopped c Outcome.NotRead)
+last_turn c lines = pick (has_room_of c lines) (stopped (claim_on_of c lines) (Ok tt)) (stopped c (Err Failure.NotRead))
 
 -- How many bytes of a full window w are taken: its whole lines. Where it has none it is the front of a line that is too
 -- long whatever follows, and all of it is taken.
@@ -36,22 +37,23 @@ leaving w = pick (piece_end_of false w =? 0) (length w) (piece_end_of false w)
 unfoldable pub take_front : Sofar → List ℕ → ℕ → Turn
 take_front c w n =
     pick (has_room_of c (take n w))
-    (record { sofar = claim_on_of c (take n w); fill = length w - n; more = true; outcome = Outcome.Done })
-    (stopped c Outcome.NotRead)
+    (record { sofar = claim_on_of c (take n w); fill = length w - n; ended = None })
+    (stopped c (Err Failure.NotRead))
 
 -- A full window.
 unfoldable pub full_turn : Sofar → List ℕ → Turn
 full_turn c w = take_front c w (leaving w)
 
 -- By how far the window w was filled; of one that was not read nothing is taken.
-unfoldable pub turned : Filled → Sofar → List ℕ → Turn
-turned (Filled.Ended n) c w = last_turn c (take n w)
-turned Filled.Full c w = full_turn c w
-turned Filled.Failed c w = stopped c Outcome.NotRead
+abbrev pub turned : Result Filled NotRead → Sofar → List ℕ → Turn
+turned (Ok (Filled.Ended n)) c w = last_turn c (take n w)
+turned (Ok Filled.Full) c w = full_turn c w
+turned (Err e) c w = stopped c (Err Failure.NotRead)
 
 -- Where a read is to follow, what was not taken stands in front; else the window is as it was.
-unfoldable pub window_after : Bool → List ℕ → List ℕ
-window_after more w = pick more (sets w 0 (drop (leaving w) w)) w
+unfoldable pub window_after : Option Outcome → List ℕ → List ℕ
+window_after None w = sets w 0 (drop (leaving w) w)
+window_after (Some o) w = w
 
 -- ---- from read to read
 

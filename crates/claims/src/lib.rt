@@ -5,29 +5,30 @@
 
 ghost use Rattle.std.specs.Prelude.{◌≡◌, ◌≤◌, length};
 ghost use Rattle.files.specs.Input.{Within};
-ghost use Rattle.claims.specs.Claims.{has_room_of, stopped, leaving, last_turn, full_turn, turned, window_after, Judged};
+ghost use Rattle.claims.specs.Claims.{has_room_of, stopped, leaving, last_turn, full_turn, turned};
+ghost use Rattle.claims.specs.Claims.{window_after, Judged};
 
 use claim::verdict::Verdict;
 use claim::{Sofar, claim_on};
 use claim_text::put_verdict;
-use files::input::{Filled, is_dash, open, read_on};
-use files::outcome::Outcome;
+use files::input::{Filled, NotRead, is_dash, open, read_on};
+use files::outcome::{Failure, Outcome};
 use files::output::write_all;
 use files::say::{fail, tell, write_block};
 use files::system::{Sink, Source, System, buffer};
 use window::{keep_rest, piece_end};
 
-// What goes from read to read: what the lines so far come to, how many bytes wait at the window's front, and whether a
-// read is to follow.
+// What goes from read to read: what the lines so far come to, how many bytes wait at the window's front, and how it
+// ended, if no read is to follow.
 #[derive(Clone, Copy)]
 struct Turn {
     sofar: Sofar,
     fill: usize,
-    more: bool,
-    outcome: Outcome,
+    ended: Option<Outcome>,
 }
 
-// What the lines that were taken come to, and how it ended.
+// What the lines that were taken come to, and how it ended. It is no Result: what they come to is promised after a
+// failure too.
 #[derive(Clone, Copy)]
 struct FileClaim {
     sofar: Sofar,
@@ -38,7 +39,7 @@ struct FileClaim {
 fn has_room(sofar: Sofar, lines: &[u8]) -> bool
     ensures { result ≡ has_room_of sofar lines.now }
 {
-    lines.len() as u64 <= 0xffff_ffff_ffff_ffff - sofar.lines
+    lines.len() as u64 <= u64::MAX - sofar.lines
 }
 
 fn stop(sofar: Sofar, outcome: Outcome) -> Turn
@@ -47,8 +48,7 @@ fn stop(sofar: Sofar, outcome: Outcome) -> Turn
     Turn {
         sofar,
         fill: 0,
-        more: false,
-        outcome,
+        ended: Some(outcome),
     }
 }
 
@@ -68,41 +68,40 @@ fn finish(sofar: Sofar, lines: &[u8]) -> Turn
     ensures { result ≡ last_turn sofar lines.now }
 {
     if !has_room(sofar, lines) {
-        return stop(sofar, Outcome::NotRead);
+        return stop(sofar, Err(Failure::NotRead));
     }
     let taken = claim_on(sofar, lines);
-    stop(taken, Outcome::Done)
+    stop(taken, Ok(()))
 }
 
 // A full window: what leaves it is taken, and the rest goes to its front.
 fn drain(sofar: Sofar, win: &mut [u8]) -> Turn
     ensures value { result ≡ full_turn sofar win.old }
-    ensures win_after { win.new ≡ window_after result.more win.old }
+    ensures win_after { win.new ≡ window_after result.ended win.old }
 {
     let n = leaving(win);
     if !has_room(sofar, &win[0..n]) {
-        return stop(sofar, Outcome::NotRead);
+        return stop(sofar, Err(Failure::NotRead));
     }
     let taken = claim_on(sofar, &win[0..n]);
     let fill = keep_rest(win, n);
     Turn {
         sofar: taken,
         fill,
-        more: true,
-        outcome: Outcome::Done,
+        ended: None,
     }
 }
 
 // By how far the window was filled: what can be taken of it is.
-fn one_turn(filled: Filled, sofar: Sofar, win: &mut [u8]) -> Turn
+fn one_turn(filled: Result<Filled, NotRead>, sofar: Sofar, win: &mut [u8]) -> Turn
     requires { Within filled win.old }
     ensures value { result ≡ turned filled sofar win.old }
-    ensures win_after { win.new ≡ window_after result.more win.old }
+    ensures win_after { win.new ≡ window_after result.ended win.old }
 {
     match filled {
-        Filled::Ended(n) => finish(sofar, &win[0..n]),
-        Filled::Full => drain(sofar, win),
-        Filled::Failed => stop(sofar, Outcome::NotRead),
+        Ok(Filled::Ended(n)) => finish(sofar, &win[0..n]),
+        Ok(Filled::Full) => drain(sofar, win),
+        Err(_) => stop(sofar, Err(Failure::NotRead)),
     }
 }
 
@@ -113,24 +112,22 @@ fn claim_file(sys: &System, from: &Source, win: &mut [u8]) -> FileClaim
 {
     let mut sofar = Sofar::new();
     let mut fill = 0;
-    let mut turns: u64 = 0;
-    while turns < 0xffff_ffff_ffff_ffff {
-        turns += 1;
+    for _ in 0..u64::MAX {
         let filled = read_on(sys, from, win, fill);
         let t = one_turn(filled, sofar, win);
         sofar = t.sofar;
         fill = t.fill;
-        if !t.more {
-            let outcome = t.outcome;
+        if let Some(outcome) = t.ended {
             return FileClaim { sofar, outcome };
         }
     }
     FileClaim {
         sofar,
-        outcome: Outcome::NotRead,
+        outcome: Err(Failure::NotRead),
     }
 }
 
+// The room of a window: it is fixed, since the project has no heap.
 fn window() -> [u8; 1048576]
     ensures { 1048576 ≡ length result }
 {
@@ -145,10 +142,10 @@ fn say(sys: &System, verdict: Verdict, told: Sink) {
         return;
     }
     if verdict.is_yes() {
-        write_all(sys, told, b"0");
+        let _ = write_all(sys, told, b"0");
         return;
     }
-    write_all(sys, told, b"1");
+    let _ = write_all(sys, told, b"1");
 }
 
 // A log that could not be read to its end has no verdict, whatever stood in front.
@@ -157,7 +154,7 @@ fn claim_input(sys: &System, from: &Source, file: &[u8], told: Sink) {
     let read = claim_file(sys, from, &mut win);
     let sofar = read.sofar;
     let outcome = read.outcome;
-    if outcome.has_failed() {
+    if outcome.is_err() {
         tell(sys, Sink::Nowhere, file, outcome);
         return;
     }
@@ -184,14 +181,13 @@ pub fn run_claim(sys: &System, at: usize, told: Sink) {
         return;
     }
     if words - at > 1 {
-        write_all(sys, Sink::Errors, b"tokelivo: claim takes one file\n");
+        let _ = write_all(sys, Sink::Errors, b"tokelivo: claim takes one file\n");
         return;
     }
     let mut file = buffer();
-    let n = sys.arg(at, &mut file);
-    if sys.errno() != 0 {
+    let Ok(n) = sys.arg(at, &mut file) else {
         fail(sys, b"the file's name", b"cannot be taken");
         return;
-    }
+    };
     claim_named(sys, &file[0..n], told);
 }

@@ -1,11 +1,10 @@
 -- Latitude and longitude, which are types apart.
-use Rattle.text.specs.Prelude.{ℕ, Bool, List, Res, ok, no, bind}
+use Rattle.text.specs.Prelude.{ℕ, Bool, List, Res, ok, bind}
 use Rattle.field.specs.Field.{sized, field}
 use Rattle.raw_coord.specs.Coord.{lettered, read_coord, new_coord, coord_text, coord_book}
 use Rattle.raw_coord.specs.declared.{Compass.Compass, RawCoord.RawCoord}
 use Rattle.raw_coord.specs.declared.Compass.TheVariants.{North, South, East, West}
-use Rattle.coord.specs.declared.{RawLatitude.RawLatitude, LatitudeRead.LatitudeRead, RawLongitude.RawLongitude}
-use Rattle.coord.specs.declared.LongitudeRead.{LongitudeRead}
+use Rattle.coord.specs.declared.{RawLatitude.RawLatitude, RawLongitude.RawLongitude}
 
 -- A coordinate that is a latitude.
 unfoldable pub latitude : Res RawCoord → Res RawLatitude
@@ -62,13 +61,3 @@ latitude_book l = coord_book 90 l.0
 -- A longitude is by the book up to the meridian opposite Greenwich.
 unfoldable pub longitude_book : RawLongitude → Bool
 longitude_book l = coord_book 180 l.0
-
--- ---- the answers of the code
-
-abbrev pub latitude_res : LatitudeRead → Res RawLatitude
-latitude_res (LatitudeRead.Ok v) = ok v
-latitude_res (LatitudeRead.Refused n) = no n
-
-abbrev pub longitude_res : LongitudeRead → Res RawLongitude
-longitude_res (LongitudeRead.Ok v) = ok v
-longitude_res (LongitudeRead.Refused n) = no n

@@ -1,1 +1,2 @@
 pub mod Coord
+pub mod Axis

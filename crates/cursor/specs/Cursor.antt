@@ -1,10 +1,9 @@
 -- A place in a log and the number of lines read so far.
 use Rattle.std.specs.Prelude.{◌+◌}
-use Rattle.text.specs.Prelude.{ℕ, List, length, pick, ◌≤?◌, ◌∧?◌, largest}
+use Rattle.text.specs.Prelude.{ℕ, List, Option, Some, None, length, pick, ◌≤?◌, ◌∧?◌, largest}
 use Rattle.igc_log.specs.Line.{cut_at}
 use Rattle.igc_log.specs.declared.Cut.{Cut}
-use Rattle.cursor.specs.declared.{Cursor.Cursor, Next.Next}
-use Rattle.cursor.specs.declared.Next.TheVariants.{Line, Done}
+use Rattle.cursor.specs.declared.Cursor.{Cursor}
 
 -- Fresh walks start at place 0 and line number 0.
 unfoldable pub start : Cursor
@@ -15,8 +14,8 @@ unfoldable pub past : Cursor → Cut → Cursor
 past c cut = record { place = cut.next; number = c.number + 1 }
 
 -- The line at the place and the cursor after it; a place at or past the end, or the largest line number, is done.
-unfoldable pub next_of : List ℕ → Cursor → Next
+unfoldable pub next_of : List ℕ → Cursor → Option (Cut × Cursor)
 next_of s c =
     pick ((c.place + 1 ≤? length s) ∧? (c.number + 1 ≤? largest))
-    (Line (cut_at c.place s) (past c (cut_at c.place s)))
-    Done
+    (Some (cut_at c.place s, past c (cut_at c.place s)))
+    None

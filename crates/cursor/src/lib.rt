@@ -13,14 +13,9 @@ pub struct Cursor {
     pub number: u64,
 }
 
-#[derive(Clone, Copy)]
-pub enum Next {
-    Line(Cut, Cursor),
-    Done,
-}
-
 impl Cursor {
     // At the log's start.
+    #[tactic(auto, unfolding(crate::specs::Cursor::start))]
     pub fn new() -> Cursor
         ensures { result ≡ start }
     {
@@ -31,23 +26,20 @@ impl Cursor {
     }
 
     // The line at the place, and the cursor after it.
-    pub fn next(self, log: &[u8]) -> Next
+    pub fn next(self, log: &[u8]) -> Option<(Cut, Cursor)>
         ensures { result ≡ next_of log.now self }
     {
-        let place = self.place;
-        let number = self.number;
-        if place < log.len() {
-            if number < 0xffff_ffff_ffff_ffff {
-                let cut = cut_at(log, place);
-                return Next::Line(
-                    cut,
-                    Cursor {
-                        place: cut.next,
-                        number: number + 1,
-                    },
-                );
-            }
+        if log.len() <= self.place {
+            return None;
         }
-        Next::Done
+        if self.number == u64::MAX {
+            return None;
+        }
+        let cut = cut_at(log, self.place);
+        let after = Cursor {
+            place: cut.next,
+            number: self.number + 1,
+        };
+        Some((cut, after))
     }
 }

@@ -4,8 +4,8 @@ use Rattle.text.specs.Prelude.{ℕ, code, List, [], length, Res, ok, no, bind, g
 use Rattle.text.specs.declared.refusal.Refusal.TheVariants.{Syntax}
 use Rattle.part.specs.Part.{part_text, part_bytes}
 use Rattle.field.specs.Field.{ascii}
-use Rattle.d_record.specs.declared.{GpsQualifier.GpsQualifier, QualifierRead.QualifierRead}
-use Rattle.d_record.specs.declared.{DRecord.DRecord, DRead.DRead}
+use Rattle.d_record.specs.declared.{GpsQualifier.GpsQualifier}
+use Rattle.d_record.specs.declared.{DRecord.DRecord}
 use Rattle.d_record.specs.declared.GpsQualifier.TheVariants.{Gps, DGps}
 
 -- The byte of a qualifier.
@@ -41,13 +41,3 @@ d_piece r s = d_body r (part_bytes r.station_id s)
 -- The text of a record beside its line; 9 where the station lies outside.
 unfoldable pub d_text : DRecord → List ℕ → Res (List ℕ)
 d_text r s = bind (part_text r.station_id s) (λ station. ok (d_body r station))
-
--- ---- the answers of the code
-
-abbrev pub qualifier_res : QualifierRead → Res GpsQualifier
-qualifier_res (QualifierRead.Ok v) = ok v
-qualifier_res (QualifierRead.Refused n) = no n
-
-abbrev pub d_res : DRead → Res DRecord
-d_res (DRead.Ok v) = ok v
-d_res (DRead.Refused n) = no n

@@ -1,10 +1,10 @@
 -- Dates: DDMMYY.
-use Rattle.text.specs.Prelude.{ℕ, Bool, List, Res, ok, no, guard, ◌≤?◌, ◌∧?◌}
+use Rattle.text.specs.Prelude.{ℕ, Bool, List, Res, ok, guard, ◌≤?◌, ◌∧?◌}
 use Rattle.text.specs.declared.refusal.Refusal.TheVariants.{OutOfRange}
 use Rattle.field.specs.Field.{sized, field}
 use Rattle.calendar.specs.Days.{days_in_of}
 use Rattle.three.specs.Three.{read_three_of, three_text}
-use Rattle.date.specs.declared.{Date.Date, DateRead.DateRead}
+use Rattle.date.specs.declared.{Date.Date}
 
 -- Day at most 31, month at most 12, zero passes; 4 else.
 unfoldable pub date_of : ℕ → ℕ → ℕ → Res Date
@@ -37,9 +37,3 @@ date_text d = three_text d.day d.month d.year
 -- By the book: a year of two digits, and a day that exists in its month.
 unfoldable pub date_book : Date → Bool
 date_book d = (d.year ≤? 99) ∧? (1 ≤? d.day) ∧? (d.day ≤? days_in_of d.month d.year)
-
--- ---- the answers of the code
-
-abbrev pub date_res : DateRead → Res Date
-date_res (DateRead.Ok v) = ok v
-date_res (DateRead.Refused n) = no n

@@ -3,15 +3,14 @@
 
 ghost use Rattle.std.specs.Prelude.{◌≡◌};
 ghost use Rattle.text.specs.Res.{ok};
-ghost use Rattle.put.specs.Put.{Wrote};
 ghost use Rattle.print.specs.Print.{Prints};
-ghost use Rattle.date.specs.Date.{date_of, read_date, date_in, dated, new_date, date_text, date_book, date_res};
+ghost use Rattle.date.specs.Date.{date_of, read_date, date_in, dated, new_date, date_text, date_book};
 
 use calendar::days_in;
 use field::is_ascii;
-use print::printed::Printed;
+use print::printed::{Piece, print_piece};
 use text::refusal::Refusal;
-use three::{ThreeRead, put_three, read_three};
+use three::{Three, put_three, read_three};
 
 // A day of a year of which the last two digits are known.
 #[derive(Clone, Copy)]
@@ -21,72 +20,51 @@ pub struct Date {
     pub year: u8,
 }
 
-#[derive(Clone, Copy)]
-pub enum DateRead {
-    Ok(Date),
-    Refused(Refusal),
-}
-
 impl Date {
     // A day of 1 to 31 and a month of 1 to 12. Reading is more lenient: there a zero passes.
-    pub fn from_dmy(day: u8, month: u8, year: u8) -> DateRead
-        ensures { date_res result ≡ new_date day month year }
+    pub fn from_dmy(day: u8, month: u8, year: u8) -> Result<Date, Refusal>
+        ensures { result ≡ new_date day month year }
     {
-        if Date::dated(day, month) {
-            if year <= 99 {
-                return DateRead::Ok(Date { day, month, year });
-            }
+        if year <= 99 && Date::dated(day, month) {
+            return Ok(Date { day, month, year });
         }
-        DateRead::Refused(Refusal::OutOfRange)
+        Err(Refusal::OutOfRange)
     }
 
     // A day and a month as construction takes them.
     fn dated(day: u8, month: u8) -> bool
         ensures { result ≡ dated day month }
     {
-        if day < 1 {
-            return false;
-        }
-        if 31 < day {
-            return false;
-        }
-        if month < 1 {
-            return false;
-        }
-        month <= 12
+        1 <= day && day <= 31 && 1 <= month && month <= 12
     }
 
     // A date in a text that the caller knows to be ASCII: the test is not made again.
-    fn parse_ascii(text: &[u8]) -> DateRead
-        ensures { date_res result ≡ date_in text.now }
+    fn parse_ascii(text: &[u8]) -> Result<Date, Refusal>
+        ensures { result ≡ date_in text.now }
     {
-        match read_three(text) {
-            ThreeRead::Ok(t) => Date::within(t.0, t.1, t.2),
-            ThreeRead::Refused(no) => DateRead::Refused(no),
-        }
+        let Three(day, month, year) = read_three(text)?;
+        Date::within(day, month, year)
     }
 
     // A day as reading takes it.
-    fn within(day: u8, month: u8, year: u8) -> DateRead
-        ensures { date_res result ≡ date_of day month year }
+    fn within(day: u8, month: u8, year: u8) -> Result<Date, Refusal>
+        ensures { result ≡ date_of day month year }
     {
-        if day <= 31 {
-            if month <= 12 {
-                return DateRead::Ok(Date { day, month, year });
-            }
+        if day <= 31 && month <= 12 {
+            return Ok(Date { day, month, year });
         }
-        DateRead::Refused(Refusal::OutOfRange)
+        Err(Refusal::OutOfRange)
     }
 
-    // Reads a date of six bytes.
-    pub fn parse(text: &[u8]) -> DateRead
-        ensures { date_res result ≡ read_date text.now }
+    // Reads a date of six bytes. Its tests are those of `Time::parse`, and no plainer by a closure.
+    pub fn parse(text: &[u8]) -> Result<Date, Refusal>
+        ensures { result ≡ read_date text.now }
     {
         if text.len() != 6 {
-            return DateRead::Refused(Refusal::WrongLength);
+            return Err(Refusal::WrongLength);
         }
         if !is_ascii(text) {
-            return DateRead::Refused(Refusal::NotAscii);
+            return Err(Refusal::NotAscii);
         }
         Date::parse_ascii(text)
     }
@@ -95,29 +73,21 @@ impl Date {
     pub fn by_the_book(self) -> bool
         ensures { result ≡ date_book self }
     {
-        if 99 < self.year {
-            return false;
-        }
-        if self.day < 1 {
-            return false;
-        }
-        self.day <= days_in(self.month, self.year)
-    }
-
-    // The text as a piece, from a place on.
-    pub fn put(self, buf: &mut [u8], at: usize) -> usize
-        ensures { Wrote buf.old at (date_text self) buf.new result }
-    {
-        put_three(buf, at, self.day, self.month, self.year)
+        self.year <= 99 && 1 <= self.day && self.day <= days_in(self.month, self.year)
     }
 
     // Prints it.
-    pub fn print(self, buf: &mut [u8]) -> Printed
+    pub fn print(self, buf: &mut [u8]) -> Result<usize, Refusal>
         ensures { Prints (ok (date_text self)) buf.old buf.new result }
     {
-        if buf.len() < self.put(&mut [], 0) {
-            return Printed::Refused(Refusal::NoRoom);
-        }
-        Printed::Written(self.put(buf, 0))
+        print_piece(self, buf)
+    }
+}
+
+impl Piece for Date {
+    ghost text = { date_text };
+
+    fn put(self, buf: &mut [u8], at: usize) -> usize {
+        put_three(buf, at, self.day, self.month, self.year)
     }
 }

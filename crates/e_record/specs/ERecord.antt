@@ -1,12 +1,12 @@
 -- E lines: events of the flight.
 use Rattle.std.specs.Prelude.{◌∷◌, ◌++◌}
-use Rattle.text.specs.Prelude.{ℕ, code, Bool, List, [], length, Res, ok, no, bind, guard, ◌≤?◌, ◌=?◌}
+use Rattle.text.specs.Prelude.{ℕ, code, Bool, List, [], length, Res, ok, bind, guard, ◌≤?◌, ◌=?◌}
 use Rattle.text.specs.Prelude.{byte, cut, columns}
 use Rattle.text.specs.declared.refusal.Refusal.TheVariants.{Syntax}
 use Rattle.part.specs.Part.{name_from, part_text, maybe_text, part_bytes, maybe_bytes}
 use Rattle.field.specs.Field.{ascii_in}
 use Rattle.time.specs.Time.{read_time_of, time_text, time_book}
-use Rattle.e_record.specs.declared.{ERecord.ERecord, ERead.ERead}
+use Rattle.e_record.specs.declared.{ERecord.ERecord}
 
 -- Under 10 bytes 1; a first byte other than E 1; 0-10 ASCII (2); time 1-7, code 7-10, text; an empty text is none.
 unfoldable pub read_e : List ℕ → Res ERecord
@@ -35,9 +35,3 @@ e_text r s =
 -- By the book: its time is.
 unfoldable pub e_book : ERecord → Bool
 e_book r = time_book r.time
-
--- ---- the answers of the code
-
-abbrev pub e_res : ERead → Res ERecord
-e_res (ERead.Ok v) = ok v
-e_res (ERead.Refused n) = no n

@@ -1,11 +1,11 @@
 -- One definition of an extension: SSEEMMM.
 use Rattle.std.specs.Prelude.{◌+◌, ◌++◌}
-use Rattle.text.specs.Prelude.{ℕ, List, length, Res, ok, no, bind, guard, ◌≤?◌, ◌=?◌, ◌∧?◌, byte, columns}
+use Rattle.text.specs.Prelude.{ℕ, List, length, Res, ok, bind, guard, ◌≤?◌, ◌=?◌, ◌∧?◌, byte, columns}
 use Rattle.text.specs.Prelude.{read_nat_of, padded}
 use Rattle.text.specs.declared.refusal.Refusal.TheVariants.{Syntax, BadExtension}
 use Rattle.field.specs.Field.{mnemonic_text}
 use Rattle.field.specs.declared.Mnemonic.{Mnemonic}
-use Rattle.extension.specs.declared.{Extension.Extension, ExtensionRead.ExtensionRead}
+use Rattle.extension.specs.declared.{Extension.Extension}
 
 -- Start, end, end before start 5, three-byte mnemonic.
 unfoldable pub read_definition : List ℕ → Res Extension
@@ -32,9 +32,3 @@ new_extension m start end =
 -- Start and end in width 2, and the mnemonic.
 unfoldable pub extension_text : Extension → List ℕ
 extension_text e = padded 2 e.start_byte ++ (padded 2 e.end_byte ++ mnemonic_text e.mnemonic)
-
--- ---- the answers of the code
-
-abbrev pub extension_res : ExtensionRead → Res Extension
-extension_res (ExtensionRead.Ok v) = ok v
-extension_res (ExtensionRead.Refused n) = no n

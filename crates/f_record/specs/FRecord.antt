@@ -1,13 +1,13 @@
 -- F lines: the satellites from a time on.
 use Rattle.std.specs.Prelude.{◌∷◌, ◌++◌}
-use Rattle.text.specs.Prelude.{ℕ, code, Bool, List, [], length, drop, Res, ok, no, bind, guard, ◌≤?◌}
+use Rattle.text.specs.Prelude.{ℕ, code, Bool, List, [], length, drop, Res, ok, bind, guard, ◌≤?◌}
 use Rattle.text.specs.Prelude.{columns}
 use Rattle.text.specs.declared.refusal.Refusal.TheVariants.{Syntax}
 use Rattle.part.specs.Part.{rest_from, part_text, part_bytes}
 use Rattle.field.specs.Field.{ascii}
 use Rattle.time.specs.Time.{read_time_of, time_text, time_book}
 use Rattle.satellites.specs.Satellites.{in_pairs, read_satellites}
-use Rattle.f_record.specs.declared.{FRecord.FRecord, FRead.FRead}
+use Rattle.f_record.specs.declared.{FRecord.FRecord}
 
 -- Time 1-7, and the list.
 unfoldable pub read_heard : List ℕ → Res FRecord
@@ -35,9 +35,3 @@ f_text r s = bind (part_text r.list s) (λ list. ok (f_body r list))
 -- By the book: its time is.
 unfoldable pub f_book : FRecord → Bool
 f_book r = time_book r.time
-
--- ---- the answers of the code
-
-abbrev pub f_res : FRead → Res FRecord
-f_res (FRead.Ok v) = ok v
-f_res (FRead.Refused n) = no n

@@ -1,7 +1,7 @@
 // What every field is read by: tests of all its bytes, and three bytes by value.
 #![tactic(auto)]
 
-ghost use Rattle.std.specs.Prelude.{◌≡◌, [], ◌∷◌, ◌+◌, ◌*◌, ◌<◌, ◌^◌, drop};
+ghost use Rattle.std.specs.Prelude.{◌≡◌, [], ◌∷◌, ◌+◌, ◌*◌, ◌<◌, ◌^◌};
 ghost use Rattle.text.specs.Number.{is_digit_of, all_digits_of, first_other_of};
 ghost use Rattle.put.specs.Put.{Wrote};
 ghost use Rattle.field.specs.Field.{is_ascii_of, mnemonic_text};
@@ -9,7 +9,7 @@ ghost use Rattle.field.specs.Field.{is_ascii_of, mnemonic_text};
 use put::put_byte;
 
 // Three bytes by value, where the Rust holds a `&str` of three characters.
-#[derive(Clone, Copy)]
+#[derive(Clone, Copy, PartialEq, Eq, Debug)]
 pub struct Mnemonic(pub u8, pub u8, pub u8);
 
 impl Mnemonic {
@@ -39,21 +39,19 @@ fn low8(a: u8, b: u8, c: u8, d: u8, e: u8, f: u8, g: u8, h: u8) -> bool
     join(join(join(join(low, d), c), b), a) & 0x8080_8080_8080_8080 == 0
 }
 
-// From a place on every byte is ASCII: byte by byte.
-fn ascii_tail(text: &[u8], at: usize) -> bool
-    ensures { result ≡ is_ascii_of (drop at text.now) }
+// Every byte is ASCII: byte by byte.
+fn ascii_tail(text: &[u8]) -> bool
+    ensures { result ≡ is_ascii_of text.now }
 {
-    let mut i = at;
-    while i < text.len() {
-        if 127 < text[i] {
+    for b in text {
+        if 127 < *b {
             return false;
         }
-        i += 1;
     }
     true
 }
 
-// Eight bytes a turn.
+// Eight bytes a turn, for speed: `for` would go byte by byte.
 pub fn is_ascii(text: &[u8]) -> bool
     ensures { result ≡ is_ascii_of text.now }
 {
@@ -73,7 +71,7 @@ pub fn is_ascii(text: &[u8]) -> bool
         }
         i += 8;
     }
-    ascii_tail(text, i)
+    ascii_tail(&text[i..])
 }
 
 // With no way out of the loop but its end the compiler tests many bytes at once.
@@ -81,12 +79,10 @@ pub fn all_digits(text: &[u8]) -> bool
     ensures { result ≡ all_digits_of text.now }
 {
     let mut all = true;
-    let mut i = 0;
-    while i < text.len() {
-        if !is_digit(text[i]) {
+    for b in text {
+        if !is_digit(*b) {
             all = false;
         }
-        i += 1;
     }
     all
 }
@@ -95,21 +91,16 @@ pub fn all_digits(text: &[u8]) -> bool
 pub fn first_other(text: &[u8]) -> usize
     ensures { result ≡ first_other_of text.now }
 {
-    let mut i = 0;
-    while i < text.len() {
+    for i in 0..text.len() {
         if !is_digit(text[i]) {
             return i;
         }
-        i += 1;
     }
-    i
+    text.len()
 }
 
 fn is_digit(b: u8) -> bool
     ensures { result ≡ is_digit_of b }
 {
-    if b < 48 {
-        return false;
-    }
-    b <= 57
+    b'0' <= b && b <= b'9'
 }

@@ -1,6 +1,5 @@
 // A whole line of the program's text.
 ghost use Rattle.put.specs.Put.{Wrote};
-ghost use Rattle.records.specs.Record.{reading_res};
 ghost use Rattle.record_print.specs.Printed.{record_piece};
 ghost use Rattle.fields_text.specs.Line.{book_shown, printed_shown, seen, place_shown, fields_shown, fields_line};
 
@@ -13,7 +12,7 @@ use record_print::put_record;
 use record_text::record::show_record;
 use records::{Reading, Record};
 use table::Table;
-use text::refusal::{MaybePlace, Refusal};
+use text::refusal::Refusal;
 
 // `y` or `n` for by the book; nothing of a line that is not read.
 fn put_book(buf: &mut [u8], at: usize, rec: Record) -> usize
@@ -30,8 +29,7 @@ fn put_book(buf: &mut [u8], at: usize, rec: Record) -> usize
 
 // The record as printed, behind ` =`.
 fn put_printed(buf: &mut [u8], at: usize, rec: Record, table: Table, line: &[u8]) -> usize
-    ensures { Wrote buf.old at (printed_shown (record_piece rec table line.now))
-        buf.new result }
+    ensures { Wrote buf.old at (printed_shown (record_piece rec table line.now)) buf.new result }
 {
     let at_sign = put_byte(buf, at, b' ');
     let at_text = put_byte(buf, at_sign, b'=');
@@ -47,8 +45,7 @@ fn put_seen(
     names: &[u8],
     line: &[u8],
 ) -> usize
-    ensures { Wrote buf.old at (seen rec held names.now line.now)
-        buf.new result }
+    ensures { Wrote buf.old at (seen rec held names.now line.now) buf.new result }
 {
     let table = rec.table(line);
     let at_book = show_record(buf, at, rec, table, held, names, line);
@@ -57,19 +54,21 @@ fn put_seen(
 }
 
 // `@` and the place of an unreadable number, right behind its answer.
+#[tactic(auto, using(put::proofs::Writing::wrote_nothing), unfolding(crate::specs::Line::place_shown, text::specs::Res::placed))]
 fn put_place(buf: &mut [u8], at: usize, no: Refusal) -> usize
     ensures { Wrote buf.old at (place_shown no) buf.new result }
 {
     match no.place() {
-        MaybePlace::At(place) => {
+        Some(place) => {
             let at_place = put_byte(buf, at, b'@');
             put_nat(buf, at_place, place as u64, 1)
         }
-        MaybePlace::Missing => at,
+        None => at,
     }
 }
 
 // The fields of a reading; of a refused line the place that its answer has.
+#[tactic(auto, unfolding(crate::specs::Line::fields_shown))]
 fn put_fields(
     buf: &mut [u8],
     at: usize,
@@ -78,12 +77,11 @@ fn put_fields(
     names: &[u8],
     line: &[u8],
 ) -> usize
-    ensures { Wrote buf.old at (fields_shown (reading_res reading) held names.now
-        line.now) buf.new result }
+    ensures { Wrote buf.old at (fields_shown reading held names.now line.now) buf.new result }
 {
     match reading {
-        Reading::Accepted(record) => put_seen(buf, at, record, held, names, line),
-        Reading::Refused(no) => put_place(buf, at, no),
+        Ok(record) => put_seen(buf, at, record, held, names, line),
+        Err(no) => put_place(buf, at, no),
     }
 }
 
@@ -98,8 +96,7 @@ pub fn put_line(
     held: Tables,
     names: &[u8],
 ) -> usize
-    ensures { Wrote buf.old at (fields_line number line.now (reading_res reading) held
-        names.now) buf.new result }
+    ensures { Wrote buf.old at (fields_line number line.now reading held names.now) buf.new result }
 {
     let at_fields = put_head(buf, at, number, line, reading);
     let at_end = put_fields(buf, at_fields, reading, held, names, line);

@@ -1,37 +1,37 @@
 // What one call of `read` or of `write` did.
 ghost use Rattle.std.specs.Prelude.{◌≡◌};
-ghost use Rattle.files.specs.Call.{did_of};
+ghost use Rattle.files.specs.Call.{did_of, call_error_of};
+
+use std::io;
 
 // The numbers of errors, as Linux has them.
 const EINTR: i32 = 4;
 
 const EPIPE: i32 = 32;
 
-// It moved bytes, or none; a signal interrupted it; nobody reads the pipe any more; it failed.
-#[derive(Clone, Copy)]
-pub enum Did {
-    Bytes(usize),
-    Nothing,
+// A signal interrupted it; nobody reads the pipe any more; it failed.
+#[derive(Clone, Copy, PartialEq, Eq)]
+pub enum CallError {
     Again,
     Closed,
     Failed,
 }
 
-// By what the call answered, and errno: no error is ever an answer of 0.
-pub fn did_by(got: isize, errno: i32) -> Did
-    ensures { result ≡ did_of got errno }
+impl From<io::Error> for CallError {
+    ghost from_gives = { λ why e. e ≡ call_error_of why };
+
+    fn from(why: io::Error) -> CallError {
+        match why.raw_os_error() {
+            Some(EINTR) => CallError::Again,
+            Some(EPIPE) => CallError::Closed,
+            _ => CallError::Failed,
+        }
+    }
+}
+
+// How many bytes it moved, 0 where there were none: no error is ever an answer of 0.
+pub fn did_by(got: io::Result<usize>) -> Result<usize, CallError>
+    ensures { result ≡ did_of got }
 {
-    if got < 0 {
-        if errno == EINTR {
-            return Did::Again;
-        }
-        if errno == EPIPE {
-            return Did::Closed;
-        }
-        return Did::Failed;
-    }
-    if got == 0 {
-        return Did::Nothing;
-    }
-    Did::Bytes(got as usize)
+    Ok(got?)
 }

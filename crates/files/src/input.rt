@@ -2,103 +2,87 @@
 ghost use Rattle.std.specs.Prelude.{◌≡◌, true, ◌≤◌, length, Some};
 ghost use Rattle.files.specs.Input.{CameBehind, FilledBehind, MoreBehind, is_dash_of};
 
-use crate::call::{Did, did_by};
+use crate::call::{CallError, did_by};
 use crate::system::{Source, System};
 
-// How far lent bytes were filled: up to the input's end; wholly, and no end was seen; or a read failed.
+// A read failed.
+#[derive(Clone, Copy, PartialEq, Eq)]
+pub struct NotRead;
+
+// How far lent bytes were filled: up to the input's end; or wholly, and no end was seen.
 #[derive(Clone, Copy)]
 pub enum Filled {
     Ended(usize),
     Full,
-    Failed,
 }
 
-// What came behind the first of some lent bytes: so many; none, for the input has ended, or there is no room for any;
-// or a read failed.
+// What came behind the first of some lent bytes: so many; or none, for the input has ended or there is no room for any.
 #[derive(Clone, Copy)]
 pub enum Came {
     Bytes(usize),
     Ended,
     NoRoom,
-    Failed,
 }
 
-// One call, behind the first bytes.
-fn read_some(sys: &System, from: &Source, buf: &mut [u8], at: usize) -> Did
+// One call, behind the first bytes, made again where a signal interrupted it: how many bytes came, 0 at the end.
+fn read_some(sys: &System, from: &Source, buf: &mut [u8], at: usize) -> Result<usize, NotRead>
     requires { at ≤ length buf.old }
     ensures { CameBehind at buf.old buf.new result }
 {
-    let got = sys.read(from, &mut buf[at..]);
-    did_by(got, sys.errno())
+    for _ in 0..u64::MAX {
+        let got = sys.read(from, &mut buf[at..]);
+        match did_by(got) {
+            Ok(n) => return Ok(n),
+            Err(CallError::Again) => {}
+            Err(_) => return Err(NotRead),
+        }
+    }
+    Err(NotRead)
 }
 
 // Reads behind the first bytes until the lent ones are full or the input ends.
-pub fn read_on(sys: &System, source: &Source, buf: &mut [u8], from: usize) -> Filled
+pub fn read_on(
+    sys: &System,
+    source: &Source,
+    buf: &mut [u8],
+    from: usize,
+) -> Result<Filled, NotRead>
     ensures { FilledBehind from buf.old buf.new result }
 {
     let mut at = from;
-    let mut turns: u64 = 0;
     while at < buf.len() {
-        if turns >= 0xffff_ffff_ffff_ffff {
-            return Filled::Failed;
+        let n = read_some(sys, source, buf, at)?;
+        if n == 0 {
+            return Ok(Filled::Ended(at));
         }
-        turns += 1;
-        match read_some(sys, source, buf, at) {
-            Did::Bytes(n) => {
-                at = at + n;
-            }
-            Did::Nothing => {
-                return Filled::Ended(at);
-            }
-            Did::Again => {}
-            Did::Closed => {
-                return Filled::Failed;
-            }
-            Did::Failed => {
-                return Filled::Failed;
-            }
-        }
+        at += n;
     }
-    Filled::Full
+    Ok(Filled::Full)
 }
 
 // Reads behind the first bytes once, as many bytes as are at hand: it waits for the first of them alone.
-pub fn read_more(sys: &System, source: &Source, buf: &mut [u8], from: usize) -> Came
+pub fn read_more(
+    sys: &System,
+    source: &Source,
+    buf: &mut [u8],
+    from: usize,
+) -> Result<Came, NotRead>
     ensures { MoreBehind from buf.old buf.new result }
 {
     if buf.len() <= from {
-        return Came::NoRoom;
+        return Ok(Came::NoRoom);
     }
-    let mut turns: u64 = 0;
-    while turns < 0xffff_ffff_ffff_ffff {
-        turns += 1;
-        match read_some(sys, source, buf, from) {
-            Did::Bytes(n) => {
-                return Came::Bytes(n);
-            }
-            Did::Nothing => {
-                return Came::Ended;
-            }
-            Did::Again => {}
-            Did::Closed => {
-                return Came::Failed;
-            }
-            Did::Failed => {
-                return Came::Failed;
-            }
-        }
+    match read_some(sys, source, buf, from)? {
+        0 => Ok(Came::Ended),
+        n => Ok(Came::Bytes(n)),
     }
-    Came::Failed
 }
 
 // The name that stands for standard input.
 pub fn is_dash(file: &[u8]) -> bool
     ensures { result ≡ is_dash_of file.now }
 {
-    if file.len() != 1 {
-        return false;
-    }
-    file[0] == b'-'
+    file.len() == 1 && file[0] == b'-'
 }
 
 // Standard input, or the file with this name; or nothing.

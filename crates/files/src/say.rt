@@ -2,7 +2,7 @@
 // shows as `?`.
 ghost use Rattle.std.specs.Prelude.{◌≡◌, length};
 
-use crate::outcome::{Outcome, write_text};
+use crate::outcome::{Failure, Outcome, write_text};
 use crate::output::write_all;
 use crate::system::{Sink, System};
 use crate::terminal::make_visible;
@@ -48,7 +48,7 @@ pub fn fail(sys: &System, file: &[u8], what: &[u8]) {
     let at_lf = put_why(&mut text, at_why, sys.errno());
     let end = put_bytes(&mut text, at_lf, b"\n");
     if end <= text.len() {
-        write_all(sys, Sink::Errors, &text[0..end]);
+        let _ = write_all(sys, Sink::Errors, &text[0..end]);
     }
 }
 
@@ -58,7 +58,7 @@ pub fn refuse(sys: &System, file: &[u8], why: &[u8]) {
     let at_lf = put_start(&mut text, file, why);
     let end = put_bytes(&mut text, at_lf, b"\n");
     if end <= text.len() {
-        write_all(sys, Sink::Errors, &text[0..end]);
+        let _ = write_all(sys, Sink::Errors, &text[0..end]);
     }
 }
 
@@ -66,12 +66,12 @@ pub fn refuse(sys: &System, file: &[u8], why: &[u8]) {
 pub fn fail_at(sys: &System, file: &[u8], before: u64, what: &[u8]) {
     let mut text = message_buffer();
     let at_number = put_start(&mut text, file, b"line ");
-    if before < 0xffff_ffff_ffff_ffff {
+    if before < u64::MAX {
         let at_words = put_nat(&mut text, at_number, before + 1, 1);
         let at_lf = put_bytes(&mut text, at_words, what);
         let end = put_bytes(&mut text, at_lf, b"\n");
         if end <= text.len() {
-            write_all(sys, Sink::Errors, &text[0..end]);
+            let _ = write_all(sys, Sink::Errors, &text[0..end]);
         }
     }
 }
@@ -81,8 +81,10 @@ pub fn say_short(sys: &System, outcome: Outcome, lines: u64) {
     if lines == 0 {
         return;
     }
-    if outcome.cuts_short() {
-        write_all(sys, Sink::Output, b"! cut short\n");
+    if let Err(failure) = outcome {
+        if failure.cuts_short() {
+            let _ = write_all(sys, Sink::Output, b"! cut short\n");
+        }
     }
 }
 
@@ -90,14 +92,19 @@ pub fn say_short(sys: &System, outcome: Outcome, lines: u64) {
 // status 0 whatever it saw.
 pub fn tell(sys: &System, told: Sink, file: &[u8], outcome: Outcome) {
     match outcome {
-        Outcome::Done => {
-            write_all(sys, told, b"0");
+        Ok(()) => {
+            let _ = write_all(sys, told, b"0");
         }
-        Outcome::NotRead => fail(sys, file, b"cannot be read to its end"),
-        Outcome::LongLine(before) => fail_at(sys, file, before, b" is longer than a mebibyte"),
-        Outcome::NoRoom(before) => fail_at(sys, file, before, b" has a text longer than its room"),
-        Outcome::NotWritten => fail(sys, b"standard output", b"cannot be written"),
-        Outcome::Closed => {}
+        Err(Failure::NotRead) => fail(sys, file, b"cannot be read to its end"),
+        Err(Failure::LongLine(before)) => fail_at(sys, file, before, b" is longer than a mebibyte"),
+        Err(Failure::NoRoom(before)) => fail_at(
+            sys,
+            file,
+            before,
+            b" has a text longer than its room",
+        ),
+        Err(Failure::NotWritten) => fail(sys, b"standard output", b"cannot be written"),
+        Err(Failure::Closed) => {}
     }
 }
 
@@ -106,14 +113,14 @@ pub fn write_number(sys: &System, to: Sink, n: u64) {
     let mut text = [0u8; 20];
     let end = put_nat(&mut text, 0, n, 1);
     if end <= text.len() {
-        write_all(sys, to, &text[0..end]);
+        let _ = write_all(sys, to, &text[0..end]);
     }
 }
 
 // Writes a text that ends there to standard output; where it cannot be written a sentence says so.
 pub fn write_block(sys: &System, text: &mut [u8], end: usize) -> bool {
     if text.len() < end {
-        write_all(
+        let _ = write_all(
             sys,
             Sink::Errors,
             b"tokelivo: a block of the sheet has no room\n",
@@ -121,7 +128,7 @@ pub fn write_block(sys: &System, text: &mut [u8], end: usize) -> bool {
         return false;
     }
     let outcome = write_text(sys, Sink::Output, &mut text[0..end]);
-    if outcome.has_failed() {
+    if outcome.is_err() {
         tell(sys, Sink::Nowhere, b"standard output", outcome);
         return false;
     }

@@ -1,8 +1,7 @@
 // The system as a program of the desk has it: what it reads from and writes to, its words, and why the last call that
 // failed did.
-ghost use Rattle.std.specs.Prelude.{◌≡◌, ◌≤◌, length};
+ghost use Rattle.std.specs.Prelude.{◌≡◌, length};
 ghost use Rattle.std.specs.Io.{ReadsAtMost, WritesAtMost};
-ghost use Rattle.files.specs.Call.{Moved};
 
 use crate::descriptor::write_whole;
 use std::cell::Cell;
@@ -71,22 +70,20 @@ impl System {
         self.errno.set(errno);
     }
 
-    // A call failed for this, which C's calls answer with -1.
+    // A call that failed says why.
     fn failed(&self, why: io::Error) {
         self.set_errno(why.raw_os_error().unwrap_or(EIO));
     }
 
-    // One call of `read`: how many bytes came, or -1.
-    pub fn read(&self, from: &Source, buf: &mut [u8]) -> isize
-        ensures { Moved (length buf.old) result }
+    // One call of `read`: how many bytes came.
+    pub fn read(&self, from: &Source, buf: &mut [u8]) -> io::Result<usize>
+        ensures { ReadsAtMost result buf.new }
     {
-        match self.read_from(from, buf) {
-            Ok(n) => n as isize,
-            Err(why) => {
-                self.failed(why);
-                -1
-            }
+        let got = self.read_from(from, buf);
+        if let Err(why) = got {
+            self.failed(why);
         }
+        got
     }
 
     fn read_from(&self, from: &Source, buf: &mut [u8]) -> io::Result<usize>
@@ -106,17 +103,15 @@ impl System {
         }
     }
 
-    // One call of `write`: how many bytes went, or -1.
-    pub fn write(&self, to: Sink, text: &[u8]) -> isize
-        ensures { Moved (length text.now) result }
+    // One call of `write`: how many bytes went.
+    pub fn write(&self, to: Sink, text: &[u8]) -> io::Result<usize>
+        ensures { WritesAtMost result text.now }
     {
-        match self.write_to(to, text) {
-            Ok(n) => n as isize,
-            Err(why) => {
-                self.failed(why);
-                -1
-            }
+        let put = self.write_to(to, text);
+        if let Err(why) = put {
+            self.failed(why);
         }
+        put
     }
 
     fn write_to(&self, to: Sink, text: &[u8]) -> io::Result<usize>
@@ -182,24 +177,16 @@ impl System {
         usize::MAX
     }
 
-    // Puts a word at the front of the buffer, and returns its length, or 0 where it is missing or has no room. It
-    // always says which of these it was: a word that was taken has no error.
-    pub fn arg(&self, i: usize, buf: &mut [u8]) -> usize
-        ensures { result ≤ length buf.new }
+    // Puts a word at the front of the buffer, and returns its length. A word that was taken has no error.
+    pub fn arg(&self, i: usize, buf: &mut [u8]) -> Result<usize, FillError>
+        ensures { ReadsAtMost result buf.new }
     {
-        match self.rt.arg(i, buf) {
-            Ok(n) => {
-                self.set_errno(0);
-                n
-            }
-            Err(FillError::NotPresent) => {
-                self.set_errno(EINVAL);
-                0
-            }
-            Err(FillError::TooLong) => {
-                self.set_errno(ENAMETOOLONG);
-                0
-            }
-        }
+        let got = self.rt.arg(i, buf);
+        self.set_errno(match got {
+            Ok(_) => 0,
+            Err(FillError::NotPresent) => EINVAL,
+            Err(FillError::TooLong) => ENAMETOOLONG,
+        });
+        got
     }
 }

@@ -1,6 +1,6 @@
 -- Parts that lie inside a line.
 use Rattle.text.specs.Prelude.{◌+◌, ◌≤◌, ◌≡◌, List, ℕ, length}
-use Rattle.text.proofs.Prelude.{arith, refl, ap, length-drop, length-take-le, pass, yes≤}
+use Rattle.text.proofs.Prelude.{arith, refl, ap, ◌∙◌, length-drop, length-take-le, pass, yes≤}
 use Rattle.part.specs.Part.{bytes_of, find_part, part_bytes}
 use Rattle.part.specs.declared.Part.{Part}
 use Rattle.part.proofs.Parts.{shown_found}
@@ -15,3 +15,7 @@ module _ (p : Part) (s : List ℕ) (lies : p.start + p.len ≤ length s) where
   pub wide : length (bytes_of p s) ≡ p.len
   unfolding bytes_of
   wide = length-take-le _ _ (rw length-drop (omega arith))
+
+  -- so is what is shown of it
+  pub shown_wide : {v : List ℕ} → v ≡ part_bytes p s → length v ≡ p.len
+  shown_wide e = ap length (e ∙ viewed) ∙ wide

@@ -13,7 +13,6 @@ use Rattle.extension.specs.Value.{find_value}
 use Rattle.held.specs.Held.{look_up}
 use Rattle.held.specs.declared.Held.{Held}
 use Rattle.finer.specs.Finer.{thousandths, plainly, finely, read_plain_of, after, narrow, read_finer, Lies}
-use Rattle.finer.specs.declared.FinerRead.{FinerRead}
 
 -- no digits
 abbrev pub nothing : Part
@@ -28,9 +27,9 @@ unfolding finely plainly
 no_digits_plain c = let e : thousandths c * 10 ^ 0 + 0 ≡ thousandths c = rw (pow-zero 10) (omega arith) in rw e
 
 -- so it is read from no bytes
-pub none_read : (c : RawCoord) (s : List ℕ) → read_finer (ok nothing) c s ≡ FinerRead.Ok (plainly c)
+pub none_read : (c : RawCoord) (s : List ℕ) → read_finer (ok nothing) c s ≡ ok (plainly c)
 unfolding read_finer after narrow read_plain_of moved guard all_digits_of value_from bytes_of
-none_read c s = rw (yes≤ {a = 0} {b = 5} (omega arith)) (ap FinerRead.Ok (no_digits_plain c))
+none_read c s = rw (yes≤ {a = 0} {b = 5} (omega arith)) (ap ok (no_digits_plain c))
 
 -- what lookup finds lies inside the line, and is not empty
 look_finds : (base : ℕ) (rest : Part) (h : Held) (name : Mnemonic) (s : List ℕ) →

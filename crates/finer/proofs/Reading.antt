@@ -1,18 +1,30 @@
 -- Digits alone: a turn of the loop that reads them, and how large their value is.
-use Rattle.text.specs.Prelude.{ℕ, suc, ◌+◌, ◌-◌, ◌*◌, ◌^◌, ◌≤◌, ◌<◌, ◌≡◌, true, false, List, ◌∷◌, length, drop, get_or}
-use Rattle.text.specs.Prelude.{Res, ok, no, guard, pick, ◌∧?◌, is_digit_of, all_digits_of, first_other_of, value_from}
+use Rattle.text.specs.Prelude.{ℕ, suc, ◌+◌, ◌-◌, ◌*◌, ◌^◌, ◌≤◌, ◌<◌, ◌≡◌, Bool, true, false, List, ◌∷◌, length, drop}
+use Rattle.text.specs.Prelude.{get_or, Res, ok, no, moved, guard, pick, ◌≤?◌, ◌∧?◌, is_digit_of, all_digits_of}
+use Rattle.text.specs.Prelude.{first_other_of, value_from}
 use Rattle.text.proofs.Finds.{Finds, finds_ok, finds_guard}
 use Rattle.text.proofs.Decimal.{value_bound}
-use Rattle.text.proofs.Prelude.{arith, sym, ap, ◌∙◌, drop-cons, drop-length, both, is≤}
+use Rattle.text.proofs.Prelude.{arith, refl, sym, ap, ◌∙◌, drop-cons, drop-length, both, is≤}
 use native.Mathlib.Nat.{add-zero, pow-suc, lt_of_lt_of_le}
 use native.Mathlib.Numerals.{add-one}
 use Rattle.text.specs.declared.refusal.Refusal.TheVariants.{UnreadableNumber}
+use Rattle.std.specs.Prelude.{◌&&◌}
+use Rattle.std.specs.Char.{is_ascii_digit}
 use Rattle.finer.specs.Finer.{read_plain_of}
 use Rattle.finer.proofs.Small.{power_le}
 
 -- what is left to read from a place on, after digits of the value a
 unfoldable pub left : ℕ → ℕ → List ℕ → Res ℕ
 left i a s = guard (all_digits_of s) (UnreadableNumber (i + first_other_of s)) (ok (value_from a s))
+
+-- what std asks of a byte is what the definition does
+pub ascii_digit : (b : ℕ) → is_ascii_digit b ≡ is_digit_of b
+unfolding is_digit_of ◌∧?◌ pick ◌≤?◌
+ascii_digit b = by (48 ≤? b)
+  where
+    by : (t : Bool) → (t && (b ≤? 57)) ≡ pick t (b ≤? 57) false
+    by true = refl
+    by false = refl
 
 -- from the start it is the whole
 pub from_start : (s : List ℕ) → left 0 0 s ≡ read_plain_of s
@@ -65,3 +77,9 @@ plain_below s = finds_guard _ (λ h. finds_ok (value_bound s h))
 
 pub read_below : (s : List ℕ) {d : ℕ} → ok d ≡ read_plain_of s → d < 10 ^ length s
 read_below s {d} h = (plain_below s).found d (sym h)
+
+-- what was found in a part of the line was found there
+pub found_moved : {A : Type 0} (a : ℕ) (m : Res A) {v : A} → moved a m ≡ ok v → ok v ≡ m
+unfolding moved
+found_moved a (ok w) e = sym e
+found_moved a (no n) e = let z : ◌≡◌ {A = ℕ} 0 1 = cc in absurd (omega arith)

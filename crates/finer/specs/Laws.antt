@@ -12,8 +12,8 @@ use Rattle.held.specs.Held.{look_up}
 use Rattle.held.specs.declared.tables.Tables.{Tables}
 use Rattle.finer.specs.Finer.{LAD, LOD, thousandths, toward, plainly, finely, read_finer, is_undefined_of}
 use Rattle.finer.specs.Finer.{finer_position}
-use Rattle.finer.specs.declared.{FinerCoord.FinerCoord, FinerRead.FinerRead, FinerRefusal.FinerRefusal}
-use Rattle.finer.specs.declared.{FinerPosition.FinerPosition, FinerPositionRead.FinerPositionRead}
+use Rattle.finer.specs.declared.{FinerCoord.FinerCoord, FinerRefusal.FinerRefusal}
+use Rattle.finer.specs.declared.{FinerPosition.FinerPosition}
 
 -- ---- digits dropped
 
@@ -60,7 +60,7 @@ pub data Why (m : Res Part) (s : List ℕ) (r : FinerRefusal) : Type 0 where
 pub data WhyNone (lad lod : Res Part) (lat : RawCoord) (s : List ℕ) (r : FinerRefusal) : Type 0 where
   latitude : is_undefined_of lad ≡ false → is_undefined_of lod ≡ false → Why lad s r → WhyNone lad lod lat s r
   longitude : is_undefined_of lad ≡ false → is_undefined_of lod ≡ false →
-      (f : FinerCoord) → read_finer lad lat s ≡ FinerRead.Ok f → Why lod s r → WhyNone lad lod lat s r
+      (f : FinerCoord) → read_finer lad lat s ≡ ok f → Why lod s r → WhyNone lad lod lat s r
 
 -- ---- the laws
 
@@ -88,15 +88,15 @@ pub record Laws : Type 0 where
   pub directed : (c : RawCoord) (n d : ℕ) → (finely n d c).value ≡ toward c.sign (nat_abs (finely n d c).value)
   -- So of every position that is given.
   pub given : (fix : BRecord) (t : Tables) (s : List ℕ) (p : FinerPosition) →
-      finer_position fix t s ≡ FinerPositionRead.Ok p →
+      finer_position fix t s ≡ ok p →
       Given fix.pos.lat.0 p.lat.0 × Given fix.pos.lon.0 p.lon.0
   -- Where lookup gives 15 for neither name each has a digit at least.
   pub some : (fix : BRecord) (t : Tables) (s : List ℕ) (p : FinerPosition) →
       is_undefined_of (look_up 35 fix.rest t.i LAD s) ≡ false →
       is_undefined_of (look_up 35 fix.rest t.i LOD s) ≡ false →
-      finer_position fix t s ≡ FinerPositionRead.Ok p →
+      finer_position fix t s ≡ ok p →
       (1 ≤ p.lat.0.n) × (1 ≤ p.lon.0.n)
   -- A position is refused in these cases alone. (No line is longer than 64 bits count.)
   pub refused : (fix : BRecord) (t : Tables) (s : List ℕ) (r : FinerRefusal) → length s ≤ largest →
-      finer_position fix t s ≡ FinerPositionRead.Refused r →
+      finer_position fix t s ≡ no r →
       WhyNone (look_up 35 fix.rest t.i LAD s) (look_up 35 fix.rest t.i LOD s) fix.pos.lat.0 s r

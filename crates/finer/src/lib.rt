@@ -4,20 +4,18 @@
 
 ghost use Rattle.std.specs.Prelude.{◌≡◌, ◌^◌, ◌≤◌, ◌<◌, length};
 ghost use Rattle.text.specs.Res.{◌∨?◌};
-ghost use Rattle.text.specs.Number.{is_digit_of};
-ghost use Rattle.part.specs.Part.{found_res};
 ghost use Rattle.finer.specs.Finer.{thousandths as Finer·thousandths, is_negative_of, toward as Finer·toward};
 ghost use Rattle.finer.specs.Finer.{finely as Finer·finely, read_plain_of, read_finer, both as Finer·both};
-ghost use Rattle.finer.specs.Finer.{is_undefined_of, position_by_of, finer_position, finer_number, finer_place};
-ghost use Rattle.finer.specs.Finer.{digits_res, Lies};
+ghost use Rattle.finer.specs.Finer.{is_undefined_of, position_by_of, finer_position, finer_number, finer_place, Lies};
+ghost use Rattle.finer.specs.declared.FinerRefusal.{FinerRefusal};
 
 use b_record::BRecord;
 use field::Mnemonic;
 use held::tables::Tables;
-use part::{Found, Part};
+use part::{InLine, Part};
 use position::RawPosition;
 use raw_coord::{Compass, RawCoord};
-use text::refusal::{MaybePlace, Refusal};
+use text::refusal::{Refusal, counted_from};
 
 // A coordinate in whole 10^-(3+n) minutes, negative in the south and the west.
 #[derive(Clone, Copy)]
@@ -49,24 +47,12 @@ pub enum FinerRefusal {
     TooWide,
 }
 
-#[derive(Clone, Copy)]
-pub enum FinerPositionRead {
-    Ok(FinerPosition),
-    Refused(FinerRefusal),
-}
+impl From<Refusal> for FinerRefusal {
+    ghost from_gives = { λ n refused. refused ≡ FinerRefusal.Read n };
 
-// One of its coordinates, or the refusal.
-#[derive(Clone, Copy)]
-enum FinerRead {
-    Ok(FinerCoord),
-    Refused(FinerRefusal),
-}
-
-// A number of digits, or the refusal.
-#[derive(Clone, Copy)]
-enum DigitsRead {
-    Ok(u64),
-    Refused(Refusal),
+    fn from(no: Refusal) -> FinerRefusal {
+        FinerRefusal::Read(no)
+    }
 }
 
 impl FinerRefusal {
@@ -81,58 +67,33 @@ impl FinerRefusal {
     }
 
     // The place of the byte to look at, counted from the line's start, which an unreadable number alone has.
-    pub fn place(self) -> MaybePlace
+    pub fn place(self) -> Option<usize>
         ensures { result ≡ finer_place self }
     {
         match self {
             FinerRefusal::Read(no) => no.place(),
-            FinerRefusal::TooWide => MaybePlace::Missing,
+            FinerRefusal::TooWide => None,
         }
     }
-}
-
-fn is_digit(b: u8) -> bool
-    ensures { result ≡ is_digit_of b }
-{
-    if b < b'0' {
-        return false;
-    }
-    b <= b'9'
 }
 
 // Digits alone, and no sign.
-fn read_plain(text: &[u8]) -> DigitsRead
+fn read_plain(text: &[u8]) -> Result<u64, Refusal>
     requires { length text.now ≤ 5 }
-    ensures { digits_res result ≡ read_plain_of text.now }
+    ensures { result ≡ read_plain_of text.now }
 {
     let mut value: u64 = 0;
-    let mut i = 0;
-    while i < text.len() {
-        let b = text[i];
-        if !is_digit(b) {
-            return DigitsRead::Refused(Refusal::UnreadableNumber(i));
+    for (i, b) in text.iter().enumerate() {
+        if !b.is_ascii_digit() {
+            return Err(Refusal::UnreadableNumber(i));
         }
-        value = value * 10 + (b - b'0') as u64;
-        i += 1;
+        value = value * 10 + (*b - b'0') as u64;
     }
-    DigitsRead::Ok(value)
-}
-
-// How many of the parts with n digits more make a thousandth.
-fn power(n: usize) -> u64
-    requires { n ≤ 5 }
-    ensures { result ≡ 10 ^ n }
-{
-    let mut parts: u64 = 1;
-    let mut i = 0;
-    while i < n {
-        parts *= 10;
-        i += 1;
-    }
-    parts
+    Ok(value)
 }
 
 // Thousandths of a minute from the equator, or from Greenwich.
+#[tactic(auto, unfolding(crate::specs::Finer::thousandths))]
 fn thousandths(c: RawCoord) -> u64
     ensures { result ≡ Finer·thousandths c }
 {
@@ -143,12 +104,7 @@ fn thousandths(c: RawCoord) -> u64
 fn is_negative(sign: Compass) -> bool
     ensures { result ≡ is_negative_of sign }
 {
-    match sign {
-        Compass::North => false,
-        Compass::South => true,
-        Compass::East => false,
-        Compass::West => true,
-    }
+    matches!(sign, Compass::South | Compass::West)
 }
 
 // So many parts of a minute in a direction.
@@ -157,10 +113,7 @@ fn toward(sign: Compass, m: u64) -> i64
     ensures { result ≡ Finer·toward sign m }
 {
     let z = m as i64;
-    if is_negative(sign) {
-        return 0 - z;
-    }
-    z
+    if is_negative(sign) { -z } else { z }
 }
 
 // A coordinate with n digits more, of the value d.
@@ -168,94 +121,94 @@ fn finely(n: usize, d: u64, c: RawCoord) -> FinerCoord
     requires { (n ≤ 5) × (d < 10 ^ n) }
     ensures { result ≡ Finer·finely n d c }
 {
-    let sign = c.sign;
+    // How many of the parts with n digits more make a thousandth.
+    let parts = 10u64.pow(n as u32);
     FinerCoord {
-        value: toward(sign, thousandths(c) * power(n) + d),
+        value: toward(c.sign, thousandths(c) * parts + d),
         n: n as u8,
     }
 }
 
 // A coordinate with the digits that were found.
-fn finer(found: Found, c: RawCoord, line: &[u8]) -> FinerRead
-    requires { Lies (found_res found) line.now }
-    ensures { result ≡ read_finer (found_res found) c line.now }
+fn finer(found: Result<Part, Refusal>, c: RawCoord, line: &[u8]) -> Result<FinerCoord, FinerRefusal>
+    requires { Lies found line.now }
+    ensures { result ≡ read_finer found c line.now }
 {
-    match found {
-        Found::Refused(no) => FinerRead::Refused(FinerRefusal::Read(no)),
-        Found::At(part) => {
-            if 5 < part.len {
-                return FinerRead::Refused(FinerRefusal::TooWide);
-            }
-            match read_plain(part.view(line)) {
-                DigitsRead::Refused(no_digit) => {
-                    FinerRead::Refused(FinerRefusal::Read(no_digit.moved(part.start)))
-                }
-                DigitsRead::Ok(d) => FinerRead::Ok(finely(part.len, d, c)),
-            }
-        }
+    let part = found?;
+    if 5 < part.len {
+        return Err(FinerRefusal::TooWide);
     }
-}
-
-// Latitude and longitude; the refusal of the latitude comes first.
-fn both(lat: FinerRead, lon: FinerRead) -> FinerPositionRead
-    ensures { result ≡ Finer·both lat lon }
-{
-    match lat {
-        FinerRead::Refused(no_lat) => FinerPositionRead::Refused(no_lat),
-        FinerRead::Ok(a) => match lon {
-            FinerRead::Refused(no_lon) => FinerPositionRead::Refused(no_lon),
-            FinerRead::Ok(b) => FinerPositionRead::Ok(FinerPosition {
-                lat: FinerLatitude(a),
-                lon: FinerLongitude(b),
-            }),
-        },
-    }
+    let digits = counted_from(part.start, read_plain(part.view(line)))?;
+    Ok(finely(part.len, digits, c))
 }
 
 // Lookup gave 15.
-fn is_undefined(found: Found) -> bool
-    ensures { result ≡ is_undefined_of (found_res found) }
+fn is_undefined(found: Result<Part, Refusal>) -> bool
+    ensures { result ≡ is_undefined_of found }
 {
-    match found {
-        Found::At(_) => false,
-        Found::Refused(no) => no.number() == 15,
-    }
+    found.is_err_and(|no| no.number() == 15)
 }
 
 // It gave 15 for either name.
-fn is_plain(lad: Found, lod: Found) -> bool
-    ensures { result ≡ (is_undefined_of (found_res lad) ∨? is_undefined_of (found_res lod)) }
+fn is_plain(lad: Result<Part, Refusal>, lod: Result<Part, Refusal>) -> bool
+    ensures { result ≡ (is_undefined_of lad ∨? is_undefined_of lod) }
 {
-    if is_undefined(lad) {
-        return true;
-    }
-    is_undefined(lod)
+    is_undefined(lad) || is_undefined(lod)
+}
+
+// Latitude and longitude, each with the digits that were found; the refusal of the latitude comes first.
+fn both(
+    lad: Result<Part, Refusal>,
+    lod: Result<Part, Refusal>,
+    pos: RawPosition,
+    line: &[u8],
+) -> Result<FinerPosition, FinerRefusal>
+    requires { Lies lad line.now × Lies lod line.now }
+    ensures { result ≡ Finer·both (read_finer lad pos.lat.0 line.now) (read_finer lod pos.lon.0 line.now) }
+{
+    let lat = finer(lad, pos.lat.0, line)?;
+    let lon = finer(lod, pos.lon.0, line)?;
+    Ok(FinerPosition {
+        lat: FinerLatitude(lat),
+        lon: FinerLongitude(lon),
+    })
 }
 
 // With what lookup gave for LAD and for LOD. Plain thousandths are a coordinate with no digits more.
-fn position_by(lad: Found, lod: Found, pos: RawPosition, line: &[u8]) -> FinerPositionRead
-    requires { Lies (found_res lad) line.now × Lies (found_res lod) line.now }
-    ensures { result ≡ position_by_of (found_res lad) (found_res lod) pos.lat.0 pos.lon.0 line.now }
+fn position_by(
+    lad: Result<Part, Refusal>,
+    lod: Result<Part, Refusal>,
+    pos: RawPosition,
+    line: &[u8],
+) -> Result<FinerPosition, FinerRefusal>
+    requires { Lies lad line.now × Lies lod line.now }
+    ensures { result ≡ position_by_of lad lod pos.lat.0 pos.lon.0 line.now }
 {
-    let lat = pos.lat.0;
-    let lon = pos.lon.0;
-    let none = Found::At(Part { start: 0, len: 0 });
     if is_plain(lad, lod) {
-        return both(finer(none, lat, line), finer(none, lon, line));
+        let none = Ok(Part { start: 0, len: 0 });
+        return both(none, none, pos, line);
     }
-    both(finer(lad, lat, line), finer(lod, lon, line))
+    both(lad, lod, pos, line)
 }
 
 impl FinerPosition {
     // The finer position of a fix beside its line, at which these tables are in force.
-    pub fn of(fix: BRecord, tables: Tables, line: &[u8]) -> FinerPositionRead
+    pub fn of(fix: BRecord, tables: Tables, line: &[u8]) -> Result<FinerPosition, FinerRefusal>
         ensures { result ≡ finer_position fix tables line.now }
     {
         let held = tables.i;
-        let rest = fix.rest;
-        let pos = fix.pos;
-        let lad = held.find(BRecord::BASE_LENGTH, rest, Mnemonic(b'L', b'A', b'D'), line);
-        let lod = held.find(BRecord::BASE_LENGTH, rest, Mnemonic(b'L', b'O', b'D'), line);
-        position_by(lad, lod, pos, line)
+        let lad = held.find(
+            BRecord::BASE_LENGTH,
+            fix.rest,
+            Mnemonic(b'L', b'A', b'D'),
+            line,
+        );
+        let lod = held.find(
+            BRecord::BASE_LENGTH,
+            fix.rest,
+            Mnemonic(b'L', b'O', b'D'),
+            line,
+        );
+        position_by(lad, lod, fix.pos, line)
     }
 }

@@ -1,9 +1,9 @@
 -- G lines: the recorder's signature, which others judge.
 use Rattle.std.specs.Prelude.{◌∷◌, ◌++◌}
-use Rattle.text.specs.Prelude.{ℕ, code, List, [], Res, ok, no, bind, guard, begins}
+use Rattle.text.specs.Prelude.{ℕ, code, List, [], Res, ok, bind, guard, begins}
 use Rattle.text.specs.declared.refusal.Refusal.TheVariants.{Syntax}
 use Rattle.part.specs.Part.{rest_from, part_text, part_bytes}
-use Rattle.g_record.specs.declared.{GRecord.GRecord, GRead.GRead}
+use Rattle.g_record.specs.declared.{GRecord.GRecord}
 
 -- An empty line, or another first byte than G, is 1; then the rest, also where it is empty.
 unfoldable pub read_g : List ℕ → Res GRecord
@@ -20,9 +20,3 @@ g_piece r s = g_body (part_bytes r.«data» s)
 -- The text of a record beside its line; 9 where the rest lies outside.
 unfoldable pub g_text : GRecord → List ℕ → Res (List ℕ)
 g_text r s = bind (part_text r.«data» s) (λ rest. ok (g_body rest))
-
--- ---- the answers of the code
-
-abbrev pub g_res : GRead → Res GRecord
-g_res (GRead.Ok v) = ok v
-g_res (GRead.Refused n) = no n

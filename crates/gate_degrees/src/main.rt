@@ -2,7 +2,7 @@
 // Rust's own conversions give the same sums (oracle/floats); what this writes is held to them in ../stdout.
 #![tactic(auto)]
 
-use coord::{RawLatitude, RawLongitude};
+use coord::{Axis, RawLatitude, RawLongitude};
 use gate_say::{decimal, write};
 use raw_coord::{Compass, RawCoord};
 
@@ -14,11 +14,11 @@ struct Sums {
 
 // No conversion gives a NaN, whose bits could not be read.
 fn bits32(x: f32) -> u32 {
-    if x != x { 0 } else { f32::to_bits(x) }
+    if x.is_nan() { 0 } else { x.to_bits() }
 }
 
 fn bits64(x: f64) -> u64 {
-    if x != x { 0 } else { f64::to_bits(x) }
+    if x.is_nan() { 0 } else { x.to_bits() }
 }
 
 fn bits(row: u8, degrees: u8, minute_thousandths: u16, sign: Compass) -> u64 {
@@ -40,21 +40,17 @@ fn bits(row: u8, degrees: u8, minute_thousandths: u16, sign: Compass) -> u64 {
 fn one_degree(row: u8, degrees: u8, sign: Compass, sums: Sums) -> Sums {
     let mut a = sums.a;
     let mut b = sums.b;
-    let mut t: u16 = 0;
-    while t <= 60000 {
-        a = std::num::wrapping_add_u64(a, bits(row, degrees, t, sign));
-        b = std::num::wrapping_add_u64(b, a);
-        t += 1;
+    for t in 0..=60000 {
+        a = a.wrapping_add(bits(row, degrees, t, sign));
+        b = b.wrapping_add(a);
     }
     Sums { a, b }
 }
 
 fn all_degrees(row: u8, sign: Compass) -> Sums {
     let mut sums = Sums { a: 0, b: 0 };
-    let mut degrees: u8 = 0;
-    while degrees <= 180 {
+    for degrees in 0..=180 {
         sums = one_degree(row, degrees, sign, sums);
-        degrees += 1;
     }
     sums
 }

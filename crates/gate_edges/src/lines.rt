@@ -1,7 +1,7 @@
 // "Lines": each line is read and printed again.
 use gate_say as say;
 use record_print::print_record;
-use records::{Reading, Record};
+use records::Record;
 use table::Table;
 
 fn answer(rt: HostRuntime, record: Record, table: Table, text: &[u8]) {
@@ -15,8 +15,8 @@ fn answer(rt: HostRuntime, record: Record, table: Table, text: &[u8]) {
 pub fn line(rt: HostRuntime, text: &[u8]) {
     say::asked(rt, b"line", text);
     match Record::parse_line(text) {
-        Reading::Accepted(record) => answer(rt, record, Table::parse(text).table, text),
-        Reading::Refused(no) => say::refused(rt, no),
+        Ok(record) => answer(rt, record, record.table(text), text),
+        Err(no) => say::refused(rt, no),
     }
 }
 

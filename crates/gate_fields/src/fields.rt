@@ -1,23 +1,30 @@
 // "Fields": each is read and printed again.
-use coord::{LatitudeRead, LongitudeRead, RawLatitude, RawLongitude};
-use date::{Date, DateRead};
-use extension::{Extension, ExtensionRead};
+use coord::{Axis, RawLatitude, RawLongitude};
+use date::Date;
+use extension::Extension;
 use field::Mnemonic;
 use gate_say as say;
-use manufacturer::{Manufacturer, MaybeTriple};
-use position::{PositionRead, RawPosition};
+use manufacturer::Manufacturer;
+use position::RawPosition;
+use print::printed::{Piece, print_piece};
 use raw_coord::Compass;
-use time::{Time, TimeRead};
+use text::refusal::Refusal;
+use time::Time;
 
-fn answer_time(rt: HostRuntime, read: TimeRead) {
+// The field that was read or made, printed into the lent bytes (by `print_piece`, which is what its `print` is), or why
+// there is none.
+fn answer<P: Piece + Copy>(rt: HostRuntime, read: Result<P, Refusal>, buf: &mut [u8]) {
     match read {
-        TimeRead::Ok(t) => {
-            let mut buf = [b'.'; 8];
-            let p = t.print(&mut buf);
-            say::printed(rt, p, &buf);
+        Ok(field) => {
+            let p = print_piece(field, buf);
+            say::printed(rt, p, buf);
         }
-        TimeRead::Refused(no) => say::refused(rt, no),
+        Err(no) => say::refused(rt, no),
     }
+}
+
+fn answer_time(rt: HostRuntime, read: Result<Time, Refusal>) {
+    answer(rt, read, &mut [b'.'; 8]);
 }
 
 fn time(rt: HostRuntime, text: &[u8]) {
@@ -25,15 +32,8 @@ fn time(rt: HostRuntime, text: &[u8]) {
     answer_time(rt, Time::parse(text));
 }
 
-fn answer_date(rt: HostRuntime, read: DateRead) {
-    match read {
-        DateRead::Ok(d) => {
-            let mut buf = [b'.'; 8];
-            let p = d.print(&mut buf);
-            say::printed(rt, p, &buf);
-        }
-        DateRead::Refused(no) => say::refused(rt, no),
-    }
+fn answer_date(rt: HostRuntime, read: Result<Date, Refusal>) {
+    answer(rt, read, &mut [b'.'; 8]);
 }
 
 fn date(rt: HostRuntime, text: &[u8]) {
@@ -41,59 +41,28 @@ fn date(rt: HostRuntime, text: &[u8]) {
     answer_date(rt, Date::parse(text));
 }
 
-fn answer_latitude(rt: HostRuntime, read: LatitudeRead) {
-    match read {
-        LatitudeRead::Ok(lat) => {
-            let mut buf = [b'.'; 10];
-            let p = lat.print(&mut buf);
-            say::printed(rt, p, &buf);
-        }
-        LatitudeRead::Refused(no) => say::refused(rt, no),
-    }
+// A latitude or a longitude.
+fn answer_axis<A: Axis>(rt: HostRuntime, read: Result<A, Refusal>) {
+    answer(rt, read, &mut [b'.'; 10]);
 }
 
 fn latitude(rt: HostRuntime, text: &[u8]) {
     say::asked(rt, b"latitude", text);
-    answer_latitude(rt, RawLatitude::parse(text));
-}
-
-fn answer_longitude(rt: HostRuntime, read: LongitudeRead) {
-    match read {
-        LongitudeRead::Ok(lon) => {
-            let mut buf = [b'.'; 10];
-            let p = lon.print(&mut buf);
-            say::printed(rt, p, &buf);
-        }
-        LongitudeRead::Refused(no) => say::refused(rt, no),
-    }
+    answer_axis(rt, RawLatitude::parse(text));
 }
 
 fn longitude(rt: HostRuntime, text: &[u8]) {
     say::asked(rt, b"longitude", text);
-    answer_longitude(rt, RawLongitude::parse(text));
+    answer_axis(rt, RawLongitude::parse(text));
 }
 
 fn position(rt: HostRuntime, text: &[u8]) {
     say::asked(rt, b"position", text);
-    match RawPosition::parse(text) {
-        PositionRead::Ok(pos) => {
-            let mut buf = [b'.'; 16];
-            let p = pos.print(&mut buf);
-            say::printed(rt, p, &buf);
-        }
-        PositionRead::Refused(no) => say::refused(rt, no),
-    }
+    answer(rt, RawPosition::parse(text), &mut [b'.'; 16]);
 }
 
-fn answer_extension(rt: HostRuntime, read: ExtensionRead) {
-    match read {
-        ExtensionRead::Ok(e) => {
-            let mut buf = [b'.'; 8];
-            let p = e.print(&mut buf);
-            say::printed(rt, p, &buf);
-        }
-        ExtensionRead::Refused(no) => say::refused(rt, no),
-    }
+fn answer_extension(rt: HostRuntime, read: Result<Extension, Refusal>) {
+    answer(rt, read, &mut [b'.'; 8]);
 }
 
 fn extension(rt: HostRuntime, text: &[u8]) {
@@ -101,17 +70,17 @@ fn extension(rt: HostRuntime, text: &[u8]) {
     answer_extension(rt, Extension::parse(text));
 }
 
-// The triple that a maker read by its letter prints.
+// The triple that a maker read by its letter prints. The room is fixed, since there is no heap.
 fn maker(rt: HostRuntime, letter: u8) {
     let text = [letter];
     say::asked(rt, b"maker", &text);
     match Manufacturer::parse_single_char(letter).to_triple_char() {
-        MaybeTriple::Triple(t) => {
+        Some(t) => {
             let mut buf = [0u8; 3];
             t.put(&mut buf, 0);
             say::write(rt, &buf);
         }
-        MaybeTriple::Missing => {
+        None => {
             say::write(rt, b"-");
         }
     }
@@ -179,11 +148,11 @@ pub fn made(rt: HostRuntime) {
     answer_date(rt, Date::from_dmy(31, 12, 99));
     answer_date(rt, Date::from_dmy(0, 12, 99));
     answer_date(rt, Date::from_dmy(31, 12, 100));
-    answer_latitude(rt, RawLatitude::new(90, 59999, Compass::South));
-    answer_latitude(rt, RawLatitude::new(90, 60000, Compass::South));
-    answer_latitude(rt, RawLatitude::new(90, 0, Compass::East));
-    answer_longitude(rt, RawLongitude::new(180, 59999, Compass::West));
-    answer_longitude(rt, RawLongitude::new(181, 0, Compass::West));
+    answer_axis(rt, RawLatitude::new(90, 59999, Compass::South));
+    answer_axis(rt, RawLatitude::new(90, 60000, Compass::South));
+    answer_axis(rt, RawLatitude::new(90, 0, Compass::East));
+    answer_axis(rt, RawLongitude::new(180, 59999, Compass::West));
+    answer_axis(rt, RawLongitude::new(181, 0, Compass::West));
 }
 
 // Definitions of extensions.

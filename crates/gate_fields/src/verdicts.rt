@@ -1,8 +1,9 @@
 // "By the book": the verdicts on fields that are read, and on values that no reading gives.
-use coord::{LatitudeRead, LongitudeRead, RawLatitude, RawLongitude};
-use date::{Date, DateRead};
+use coord::{Axis, RawLatitude, RawLongitude};
+use date::Date;
 use gate_say as say;
 use raw_coord::{Compass, RawCoord};
+use text::refusal::Refusal;
 
 fn verdict(rt: HostRuntime, by_the_book: bool) {
     if by_the_book {
@@ -12,28 +13,27 @@ fn verdict(rt: HostRuntime, by_the_book: bool) {
     }
 }
 
+// The verdict on a field that is read, or why there is none.
+fn answer(rt: HostRuntime, read: Result<bool, Refusal>) {
+    match read {
+        Ok(by_the_book) => verdict(rt, by_the_book),
+        Err(no) => say::refused(rt, no),
+    }
+}
+
 fn day(rt: HostRuntime, text: &[u8]) {
     say::asked(rt, b"day", text);
-    match Date::parse(text) {
-        DateRead::Ok(date) => verdict(rt, date.by_the_book()),
-        DateRead::Refused(no) => say::refused(rt, no),
-    }
+    answer(rt, Date::parse(text).map(Date::by_the_book));
 }
 
 fn latitude(rt: HostRuntime, text: &[u8]) {
     say::asked(rt, b"latitude by the book", text);
-    match RawLatitude::parse(text) {
-        LatitudeRead::Ok(lat) => verdict(rt, lat.by_the_book()),
-        LatitudeRead::Refused(no) => say::refused(rt, no),
-    }
+    answer(rt, RawLatitude::parse(text).map(RawLatitude::by_the_book));
 }
 
 fn longitude(rt: HostRuntime, text: &[u8]) {
     say::asked(rt, b"longitude by the book", text);
-    match RawLongitude::parse(text) {
-        LongitudeRead::Ok(lon) => verdict(rt, lon.by_the_book()),
-        LongitudeRead::Refused(no) => say::refused(rt, no),
-    }
+    answer(rt, RawLongitude::parse(text).map(RawLongitude::by_the_book));
 }
 
 // Days that a month has or lacks.
@@ -77,37 +77,17 @@ fn coord(degrees: u8, minute_thousandths: u16, sign: Compass) -> RawCoord {
     }
 }
 
+fn date(day: u8, month: u8, year: u8) -> Date {
+    Date { day, month, year }
+}
+
 // Values past the limit, and years of three digits.
 pub fn by_hand(rt: HostRuntime) {
     verdict(rt, RawLatitude(coord(91, 0, Compass::North)).by_the_book());
     verdict(rt, RawLatitude(coord(90, 0, Compass::North)).by_the_book());
     verdict(rt, RawLongitude(coord(181, 0, Compass::West)).by_the_book());
     verdict(rt, RawLongitude(coord(91, 1, Compass::West)).by_the_book());
-    verdict(
-        rt,
-        (Date {
-            day: 1,
-            month: 1,
-            year: 100,
-        })
-        .by_the_book(),
-    );
-    verdict(
-        rt,
-        (Date {
-            day: 1,
-            month: 13,
-            year: 99,
-        })
-        .by_the_book(),
-    );
-    verdict(
-        rt,
-        (Date {
-            day: 29,
-            month: 2,
-            year: 96,
-        })
-        .by_the_book(),
-    );
+    verdict(rt, date(1, 1, 100).by_the_book());
+    verdict(rt, date(1, 13, 99).by_the_book());
+    verdict(rt, date(29, 2, 96).by_the_book());
 }

@@ -2,14 +2,14 @@
 // readers took the two columns the other way round, and a published gain had to be struck out.
 #![tactic(auto)]
 
-use b_record::{BRead, BRecord};
+use b_record::{BRecord, Height};
 use fields_text::line::put_line;
 use gate_say::write;
 use held::tables::Tables;
 use listing_text::listing::print_listing;
-use print::printed::Printed;
 use record_print::print_record;
-use records::{Reading, Record};
+use records::Record;
+use text::refusal::Refusal;
 
 fn say(rt: HostRuntime, text: &[u8], n: usize) {
     if n <= text.len() {
@@ -17,30 +17,28 @@ fn say(rt: HostRuntime, text: &[u8], n: usize) {
     }
 }
 
-fn say_printed(rt: HostRuntime, answer: Printed, text: &[u8]) {
+fn say_printed(rt: HostRuntime, answer: Result<usize, Refusal>, text: &[u8]) {
     match answer {
-        Printed::Written(n) => say(rt, text, n),
-        Printed::Refused(_) => {
+        Ok(n) => say(rt, text, n),
+        Err(_) => {
             write(rt, b"refused");
         }
     }
 }
 
-// The record's own fields.
+// The record's own fields. The rooms here are fixed, since there is no heap.
 fn record(rt: HostRuntime, line: &[u8]) {
     write(rt, b"record: pressure ");
     match BRecord::parse(line) {
-        BRead::Ok(fix) => {
-            let pressure = fix.pressure_alt;
-            let gps = fix.gps_alt;
+        Ok(fix) => {
             let mut text = [0u8; 8];
-            let n = pressure.put(&mut text, 0, 1);
+            let n = fix.pressure_alt.put(&mut text, 0, 1);
             say(rt, &text, n);
             write(rt, b", GPS ");
-            let m = gps.put(&mut text, 0, 1);
+            let m = fix.gps_alt.put(&mut text, 0, 1);
             say(rt, &text, m);
         }
-        BRead::Refused(_) => {
+        Err(_) => {
             write(rt, b"refused");
         }
     }
@@ -74,11 +72,11 @@ fn printed(rt: HostRuntime, line: &[u8]) {
     let mut text = [0u8; 64];
     write(rt, b"printed: ");
     match Record::parse_line(line) {
-        Reading::Accepted(record) => {
+        Ok(record) => {
             let answer = print_record(record, record.table(line), line, &mut text);
             say_printed(rt, answer, &text);
         }
-        Reading::Refused(_) => {
+        Err(_) => {
             write(rt, b"refused");
         }
     }

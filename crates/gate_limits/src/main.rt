@@ -5,7 +5,7 @@
 ghost use Rattle.std.specs.Prelude.{◌≡◌, length};
 
 use files::input::open;
-use files::outcome::Outcome;
+use files::outcome::{Failure, Outcome};
 use files::output::write_all;
 use files::system::{Sink, System};
 use paper::list;
@@ -13,16 +13,18 @@ use products::Product;
 use stream::run;
 
 fn say(sys: &System, outcome: Outcome) {
-    match outcome {
-        Outcome::Done => write_all(sys, Sink::Output, b"done\n"),
-        Outcome::NotRead => write_all(sys, Sink::Output, b"not read\n"),
-        Outcome::LongLine(_) => write_all(sys, Sink::Output, b"a long line\n"),
-        Outcome::NoRoom(_) => write_all(sys, Sink::Output, b"no room\n"),
-        Outcome::NotWritten => write_all(sys, Sink::Output, b"not written\n"),
-        Outcome::Closed => write_all(sys, Sink::Output, b"closed\n"),
+    let said = match outcome {
+        Ok(()) => b"done\n".as_slice(),
+        Err(Failure::NotRead) => b"not read\n".as_slice(),
+        Err(Failure::LongLine(_)) => b"a long line\n".as_slice(),
+        Err(Failure::NoRoom(_)) => b"no room\n".as_slice(),
+        Err(Failure::NotWritten) => b"not written\n".as_slice(),
+        Err(Failure::Closed) => b"closed\n".as_slice(),
     };
+    let _ = write_all(sys, Sink::Output, said);
 }
 
+// A window of fixed size, since there is no heap.
 fn window() -> [u8; 4096]
     ensures { 4096 ≡ length result }
 {
@@ -32,7 +34,7 @@ fn window() -> [u8; 4096]
 // Through a window that is shorter than the logs, and into room for a few lines.
 fn stream(sys: &System, product: Product, file: &[u8]) {
     let Some(from) = open(sys, file) else {
-        say(sys, Outcome::NotRead);
+        say(sys, Err(Failure::NotRead));
         return;
     };
     let mut win = window();
@@ -52,7 +54,7 @@ fn stream(sys: &System, product: Product, file: &[u8]) {
 
 fn paper(sys: &System, file: &[u8]) {
     let Some(from) = open(sys, file) else {
-        say(sys, Outcome::NotRead);
+        say(sys, Err(Failure::NotRead));
         return;
     };
     let outcome = list(sys, &from, Sink::Output);
@@ -60,11 +62,11 @@ fn paper(sys: &System, file: &[u8]) {
 }
 
 fn both(sys: &System, file: &[u8]) {
-    write_all(sys, Sink::Output, b"paper ");
-    write_all(sys, Sink::Output, file);
-    write_all(sys, Sink::Output, b":\n");
+    let _ = write_all(sys, Sink::Output, b"paper ");
+    let _ = write_all(sys, Sink::Output, file);
+    let _ = write_all(sys, Sink::Output, b":\n");
     paper(sys, file);
-    write_all(sys, Sink::Output, b"desk:\n");
+    let _ = write_all(sys, Sink::Output, b"desk:\n");
     stream(sys, Product::Listing, file);
 }
 
@@ -75,7 +77,7 @@ fn main(rt: HostRuntime) {
     both(&sys, b"empty");
     both(&sys, b".");
     both(&sys, b"no such file");
-    write_all(
+    let _ = write_all(
         &sys,
         Sink::Output,
         b"fields, up to a line that has no room:\n",

@@ -1,21 +1,21 @@
-// Small logs at the edges, listed: what the program `listing` would write of each.
+// Small logs at the edges, listed: what the program `listing` would write of each. The room is fixed, since there is no
+// heap.
 #![tactic(auto)]
 
 use gate_say::{decimal, write};
 use listing_text::listing::print_listing;
-use print::printed::Printed;
 
 fn list(rt: HostRuntime, name: &[u8], log: &[u8]) {
     let mut text = [0u8; 512];
     write(rt, name);
     write(rt, b":\n");
     match print_listing(log, &mut text) {
-        Printed::Written(n) => {
+        Ok(n) => {
             if n <= text.len() {
                 write(rt, &text[0..n]);
             }
         }
-        Printed::Refused(no) => {
+        Err(no) => {
             decimal(rt, no.number() as u64);
             write(rt, b"\n");
         }

@@ -3,58 +3,56 @@ use gate_say as say;
 use part::Part;
 use print::number::{put_i8, put_i16, put_nat};
 use print::printed::{print_int, print_part};
-use text::number::{I8Read, I16Read, U8Read, U16Read, read_i8, read_i16, read_u8, read_u16};
+use text::number::{read_i8, read_i16, read_u8, read_u16};
+use text::refusal::Refusal;
+
+// A number as it is written: an array with its length, since there is no heap.
+#[derive(Clone, Copy)]
+struct Written {
+    bytes: [u8; 8],
+    len: usize,
+}
+
+fn nat(v: u64) -> Written {
+    let mut bytes = [0u8; 8];
+    let len = put_nat(&mut bytes, 0, v, 0);
+    Written { bytes, len }
+}
+
+fn short(v: i8) -> Written {
+    let mut bytes = [0u8; 8];
+    let len = put_i8(&mut bytes, 0, v, 0);
+    Written { bytes, len }
+}
+
+fn integer(v: i16) -> Written {
+    let mut bytes = [0u8; 8];
+    let len = put_i16(&mut bytes, 0, v, 0);
+    Written { bytes, len }
+}
+
+fn answer(rt: HostRuntime, name: &[u8], text: &[u8], read: Result<Written, Refusal>) {
+    say::asked(rt, name, text);
+    match read {
+        Ok(written) => say::accepted(rt, &written.bytes, written.len),
+        Err(no) => say::refused(rt, no),
+    }
+}
 
 fn of_u8(rt: HostRuntime, text: &[u8]) {
-    say::asked(rt, b"u8", text);
-    match read_u8(text) {
-        U8Read::Ok(v) => {
-            let mut buf = [0u8; 8];
-            let n = put_nat(&mut buf, 0, v as u64, 0);
-            say::accepted(rt, &buf, n);
-        }
-        U8Read::Refused(no) => say::refused(rt, no),
-    }
+    answer(rt, b"u8", text, read_u8(text).map(|v| nat(v as u64)));
 }
 
 fn of_u16(rt: HostRuntime, text: &[u8]) {
-    say::asked(rt, b"u16", text);
-    match read_u16(text) {
-        U16Read::Ok(v) => {
-            let mut buf = [0u8; 8];
-            let n = put_nat(&mut buf, 0, v as u64, 0);
-            say::accepted(rt, &buf, n);
-        }
-        U16Read::Refused(no) => say::refused(rt, no),
-    }
+    answer(rt, b"u16", text, read_u16(text).map(|v| nat(v as u64)));
 }
 
 fn of_i8(rt: HostRuntime, text: &[u8]) {
-    say::asked(rt, b"i8", text);
-    match read_i8(text) {
-        I8Read::Ok(v) => {
-            let mut buf = [0u8; 8];
-            let n = put_i8(&mut buf, 0, v, 0);
-            say::accepted(rt, &buf, n);
-        }
-        I8Read::Refused(no) => say::refused(rt, no),
-    }
+    answer(rt, b"i8", text, read_i8(text).map(short));
 }
 
 fn of_i16(rt: HostRuntime, text: &[u8]) {
-    say::asked(rt, b"i16", text);
-    answer_i16(rt, text);
-}
-
-fn answer_i16(rt: HostRuntime, text: &[u8]) {
-    match read_i16(text) {
-        I16Read::Ok(v) => {
-            let mut buf = [0u8; 8];
-            let n = put_i16(&mut buf, 0, v, 0);
-            say::accepted(rt, &buf, n);
-        }
-        I16Read::Refused(no) => say::refused(rt, no),
-    }
+    answer(rt, b"i16", text, read_i16(text).map(integer));
 }
 
 // Numbers without a sign.
@@ -120,8 +118,12 @@ pub fn long(rt: HostRuntime) {
 }
 
 fn long_case(rt: HostRuntime, text: &[u8]) {
-    say::asked(rt, b"i16", b"ten thousand digits");
-    answer_i16(rt, text);
+    answer(
+        rt,
+        b"i16",
+        b"ten thousand digits",
+        read_i16(text).map(integer),
+    );
 }
 
 fn put(rt: HostRuntime, z: i64, width: usize) {

@@ -7,7 +7,7 @@ mod edges;
 
 use gate_say::{decimal, write};
 use print::number::{put_i8, put_i16, put_nat};
-use text::number::{I8Read, I16Read, U8Read, U16Read, read_i8, read_i16, read_u8, read_u16};
+use text::number::{read_i8, read_i16, read_u8, read_u16};
 
 #[derive(Clone, Copy)]
 struct Sums {
@@ -51,22 +51,10 @@ fn short(v: i8) -> u64 {
 // 0 for a refusal.
 fn code(row: u8, text: &[u8]) -> u64 {
     match row {
-        0 => match read_u8(text) {
-            U8Read::Ok(a) => unsigned(a as u16),
-            U8Read::Refused(_) => 0,
-        },
-        1 => match read_u16(text) {
-            U16Read::Ok(b) => unsigned(b),
-            U16Read::Refused(_) => 0,
-        },
-        2 => match read_i8(text) {
-            I8Read::Ok(c) => short(c),
-            I8Read::Refused(_) => 0,
-        },
-        _ => match read_i16(text) {
-            I16Read::Ok(d) => signed(d),
-            I16Read::Refused(_) => 0,
-        },
+        0 => read_u8(text).map_or(0, |v| unsigned(v as u16)),
+        1 => read_u16(text).map_or(0, unsigned),
+        2 => read_i8(text).map_or(0, short),
+        _ => read_i16(text).map_or(0, signed),
     }
 }
 
@@ -86,11 +74,9 @@ fn nth(row: u8, width: usize, n: u64) -> u64 {
 fn all(row: u8, width: usize, end: u64) -> Sums {
     let mut a: u64 = 0;
     let mut b: u64 = 0;
-    let mut n: u64 = 0;
-    while n < end {
-        a = std::num::wrapping_add_u64(a, nth(row, width, n));
-        b = std::num::wrapping_add_u64(b, a);
-        n += 1;
+    for n in 0..end {
+        a = a.wrapping_add(nth(row, width, n));
+        b = b.wrapping_add(a);
     }
     Sums { a, b }
 }

@@ -1,17 +1,18 @@
 // "Extension values": definitions built by hand, asked of a fix and of a K line.
-use b_record::{BRead, BRecord};
+use b_record::BRecord;
 use extension::Extension;
 use field::Mnemonic;
 use gate_say as say;
-use k_record::{KRead, KRecord};
-use part::Found;
+use k_record::KRecord;
+use part::Part;
+use text::refusal::Refusal;
 
-fn found(rt: HostRuntime, answer: Found) {
+fn found(rt: HostRuntime, answer: Result<Part, Refusal>) {
     match answer {
-        Found::At(_) => {
+        Ok(_) => {
             say::write(rt, b"0\n");
         }
-        Found::Refused(no) => say::refused(rt, no),
+        Err(no) => say::refused(rt, no),
     }
 }
 
@@ -27,11 +28,11 @@ fn value(rt: HostRuntime, start: u8, end: u8) {
     let text = b"B1015304712345N01102500EA0152301561035";
     let def = definition(start, end);
     match BRecord::parse(text) {
-        BRead::Ok(b) => {
+        Ok(b) => {
             say::asked(rt, b"value", b.get_extension(def, text));
             found(rt, b.find_extension(def, text));
         }
-        BRead::Refused(no) => say::refused(rt, no),
+        Err(no) => say::refused(rt, no),
     }
 }
 
@@ -39,11 +40,11 @@ fn k_value(rt: HostRuntime, start: u8, end: u8) {
     let text = b"K10153004512";
     let def = definition(start, end);
     match KRecord::parse(text) {
-        KRead::Ok(k) => {
+        Ok(k) => {
             say::asked(rt, b"value", k.get_extension(def, text));
             found(rt, k.find_extension(def, text));
         }
-        KRead::Refused(no) => say::refused(rt, no),
+        Err(no) => say::refused(rt, no),
     }
 }
 

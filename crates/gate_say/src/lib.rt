@@ -1,8 +1,7 @@
 // Writing a case and what came of it.
 #![tactic(auto)]
 
-use print::printed::Printed;
-use text::refusal::{MaybePlace, Refusal};
+use text::refusal::Refusal;
 
 // Some bytes to standard output. Where they cannot be written, what the program writes falls short.
 pub fn write(rt: HostRuntime, bytes: &[u8]) {
@@ -26,11 +25,11 @@ pub fn asked(rt: HostRuntime, what: &[u8], text: &[u8]) {
 pub fn refused(rt: HostRuntime, no: Refusal) {
     decimal(rt, no.number() as u64);
     match no.place() {
-        MaybePlace::At(place) => {
+        Some(place) => {
             write(rt, b"@");
             decimal(rt, place as u64);
         }
-        MaybePlace::Missing => {}
+        None => {}
     }
     write(rt, b"\n");
 }
@@ -45,13 +44,13 @@ pub fn accepted(rt: HostRuntime, buf: &[u8], n: usize) {
 }
 
 // What a printer answered, and the buffer as it then is.
-pub fn printed(rt: HostRuntime, p: Printed, buf: &[u8]) {
+pub fn printed(rt: HostRuntime, p: Result<usize, Refusal>, buf: &[u8]) {
     match p {
-        Printed::Written(n) => {
+        Ok(n) => {
             write(rt, b"wrote ");
             decimal(rt, n as u64);
         }
-        Printed::Refused(no) => {
+        Err(no) => {
             decimal(rt, no.number() as u64);
         }
     }

@@ -2,19 +2,19 @@
 #![tactic(auto)]
 
 use gate_say::{decimal, write};
-use task::{TaskPrinted, print_task};
+use task::print_task;
 
-// The sheet, which is the first bytes of the text; or the refusal, after which no byte of it may be altered.
-fn say(rt: HostRuntime, name: &[u8], printed: TaskPrinted, text: &[u8]) {
+// The sheet, which is the first of the lent bytes; or the refusal, after which none of them may be altered.
+fn say<'a>(rt: HostRuntime, name: &[u8], log: &'a [u8], labels: &'a [u8], text: &mut [u8]) {
     write(rt, name);
     write(rt, b":\n");
-    match printed {
-        TaskPrinted::Written(n) => {
+    match print_task(log, labels, text) {
+        Ok(n) => {
             if n <= text.len() {
                 write(rt, &text[0..n]);
             }
         }
-        TaskPrinted::Refused(no) => {
+        Err(no) => {
             decimal(rt, no.number() as u64);
             write(rt, b"\n`");
             write(rt, text);
@@ -24,15 +24,11 @@ fn say(rt: HostRuntime, name: &[u8], printed: TaskPrinted, text: &[u8]) {
 }
 
 fn sheet<'a>(rt: HostRuntime, name: &[u8], log: &'a [u8], labels: &'a [u8]) {
-    let mut text = [b'.'; 128];
-    let printed = print_task(log, labels, &mut text);
-    say(rt, name, printed, &text);
+    say(rt, name, log, labels, &mut [b'.'; 128]);
 }
 
 fn small<'a>(rt: HostRuntime, name: &[u8], log: &'a [u8], labels: &'a [u8]) {
-    let mut text = [b'.'; 79];
-    let printed = print_task(log, labels, &mut text);
-    say(rt, name, printed, &text);
+    say(rt, name, log, labels, &mut [b'.'; 79]);
 }
 
 // A zero count: takeoff, start, finish and landing.

@@ -1,32 +1,47 @@
--- The first colon of a line, looked for byte by byte: what is left, from i on, is the whole.
-use Rattle.text.specs.Prelude.{ℕ, ◌+◌, ◌≤◌, ◌<◌, ◌≡◌, Bool, true, false, List, [], ◌∷◌, length, drop, get_or, pick, ◌=?◌}
-use Rattle.text.proofs.Prelude.{arith, length-drop, drop-cons, drop-length, yes=, no=}
-use native.Mathlib.Numerals.{add-one}
-use Rattle.h_record.specs.HRecord.{colon_in}
+-- The first colon of a text is the one that std's search finds.
+use Rattle.text.specs.Prelude.{ℕ, ◌+◌, ◌≤◌, ◌<◌, ◌≡◌, Bool, true, false, List, length, drop, Some, None, pick, ◌=?◌}
+use Rattle.text.proofs.Prelude.{arith, refl, length-drop}
+use Rattle.std.specs.Prelude.{cond, not, position}
+use Rattle.std.specs.List.{position_or_len}
+use Rattle.std.proofs.lemmas.List.Recursion.{is_position_or_len}
+use Rattle.std.proofs.lemmas.List.Sums.{prefix_len-le-length}
+use borrow.Author.Tests.{ltb-true, ltb-false}
+use Rattle.h_record.specs.HRecord.{is_colon, colon_in}
 
-module _ (s : List ℕ) (i : ℕ) {n : ℕ} (inv : i + colon_in (drop i s) ≡ n) where
-  pub here : i < length s → get_or s i 0 ≡ 58 → i ≡ n
-  unfolding colon_in pick
-  here inside h = let e = rw (drop-cons s i 0, yes= h) at inv in omega arith
+picks : (t : Bool) {a b : ℕ} → a ≡ b → pick t 0 a ≡ cond t 0 b
+unfolding pick
+picks true h = refl
+picks false h = h
 
-  pub colon_next : i < length s → (get_or s i 0 ≡ 58 → ⊥) → i + 1 + colon_in (drop (i + 1) s) ≡ n
-  unfolding colon_in pick
-  colon_next inside h = let e = rw (drop-cons s i 0, no= h) at inv in rw add-one (omega arith)
-
-  pub colon_nowhere : i ≡ length s → i ≡ n
-  unfolding colon_in
-  colon_nowhere e = let z = rw (e, drop-length) at inv in omega arith
+searched : (s : List ℕ) → colon_in s ≡ position_or_len is_colon s
+unfolding colon_in ◌=?◌
+searched = is_position_or_len colon_in is_colon refl (λ b s. picks (is_colon b) (omega arith))
 
 -- the first colon is at the end at the latest
-pick_most : (t : Bool) {a b n : ℕ} → a ≤ n → b ≤ n → pick t a b ≤ n
-unfolding pick
-pick_most true h k = h
-pick_most false h k = k
-
 colon_most : (s : List ℕ) → colon_in s ≤ length s
-unfolding colon_in
-colon_most [] = omega arith
-colon_most (b ∷ s) = pick_most (b =? 58) (omega arith) (omega (arith, colon_most s))
+colon_most s = rw searched (prefix_len-le-length (λ b. not (is_colon b)) s)
 
 pub colon_inside : (a : ℕ) (s : List ℕ) → a ≤ length s → a + colon_in (drop a s) ≤ length s
 colon_inside a s h = omega (arith, colon_most (drop a s), length-drop a s)
+
+-- what the answer of a test says of the test
+made : (t : Bool) {a n : ℕ} → Some n ≡ cond t (Some a) None → (t ≡ true) × (a ≡ n)
+made true h = (refl, cc)
+made false h = cc
+
+unmade : (t : Bool) (a : ℕ) → None ≡ cond t (Some a) None → t ≡ false
+unmade true a h = cc
+unmade false a h = refl
+
+pub colon_found : (s : List ℕ) {n : ℕ} → Some n ≡ position is_colon s → (n < length s) × (colon_in s ≡ n)
+colon_found s h =
+    let m = made _ h in
+    let e = searched s in
+    let inside = ltb-true _ _ m.0 in
+    (omega arith, cc)
+
+pub colon_missing : (s : List ℕ) → None ≡ position is_colon s → colon_in s ≡ length s
+colon_missing s h =
+    let e = searched s in
+    let nowhere = ltb-false _ _ (unmade _ _ h) in
+    omega (arith, colon_most s)

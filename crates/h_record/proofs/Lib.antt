@@ -1,2 +1,1 @@
 pub mod Colons
-pub mod Answers

@@ -1,12 +1,13 @@
 -- H lines: headers.
-use Rattle.std.specs.Prelude.{◌+◌, ◌-◌, ◌/◌, ◌%◌, ◌∷◌, ◌++◌}
-use Rattle.text.specs.Prelude.{ℕ, suc, code, List, [], length, drop, Res, ok, no, bind}
+use Rattle.part.specs.declared.Part.{Part}
+use Rattle.text.specs.Prelude.{None, Option, Some}
+use Rattle.std.specs.Prelude.{Bool, eqb, ◌+◌, ◌-◌, ◌/◌, ◌%◌, ◌∷◌, ◌++◌}
+use Rattle.text.specs.Prelude.{ℕ, suc, code, List, [], length, drop, Res, ok, bind}
 use Rattle.text.specs.Prelude.{guard, pick, ◌≤?◌, ◌=?◌, byte, cut}
 use Rattle.part.specs.Part.{rest_from, part_text, maybe_text, part_bytes, maybe_bytes}
 use Rattle.text.specs.declared.refusal.Refusal.TheVariants.{Syntax}
-use Rattle.part.specs.declared.MaybePart.{MaybePart}
 use Rattle.field.specs.Field.{ascii_in}
-use Rattle.h_record.specs.declared.{DataSource.DataSource, HRecord.HRecord, HRead.HRead}
+use Rattle.h_record.specs.declared.{DataSource.DataSource, HRecord.HRecord}
 use Rattle.h_record.specs.declared.DataSource.TheVariants.{FVU, OfficialObserver, Pilot, Unrecognized}
 
 -- The byte of a source.
@@ -24,6 +25,10 @@ source_of b =
     (pick (b =? source_byte Pilot) Pilot
     (Unrecognized b)))
 
+-- A byte that is a colon.
+abbrev pub is_colon : ℕ → Bool
+is_colon b = eqb b (code ":")
+
 -- The place of the first colon, or the length where there is none.
 unfoldable pub colon_in : List ℕ → ℕ
 colon_in [] = 0
@@ -36,13 +41,13 @@ named s c =
     (record {
       data_source = source_of (byte 1 s);
       mnemonic = record { start = 2; len = 3 };
-      friendly_name = MaybePart.Missing;
+      friendly_name = None;
       «data» = rest_from 5 s;
     })
     (record {
       data_source = source_of (byte 1 s);
       mnemonic = record { start = 2; len = 3 };
-      friendly_name = MaybePart.At (record { start = 5; len = c - 5 });
+      friendly_name = Some (record { start = 5; len = c - 5 });
       «data» = rest_from (c + 1) s;
     })
 
@@ -59,9 +64,9 @@ unfoldable pub char_text : ℕ → List ℕ
 char_text b = pick (b ≤? 127) (b ∷ []) (((192 + b / 64) ∷ []) ++ ((128 + b % 64) ∷ []))
 
 -- A name with its colon; nothing where there is no name.
-unfoldable pub name_text : MaybePart → List ℕ → List ℕ
-name_text MaybePart.Missing t = []
-name_text (MaybePart.At p) t = t ++ (code ":" ∷ [])
+unfoldable pub name_text : Option Part → List ℕ → List ℕ
+name_text None t = []
+name_text (Some p) t = t ++ (code ":" ∷ [])
 
 -- The name with its colon, and the data.
 unfoldable pub data_text : HRecord → List ℕ → List ℕ → List ℕ
@@ -83,9 +88,3 @@ h_text r s =
     bind (maybe_text r.friendly_name s) (λ n.
     bind (part_text r.«data» s) (λ d.
     ok (h_body r m n d))))
-
--- ---- the answers of the code
-
-abbrev pub h_res : HRead → Res HRecord
-h_res (HRead.Ok v) = ok v
-h_res (HRead.Refused n) = no n

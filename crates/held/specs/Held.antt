@@ -9,26 +9,25 @@ use Rattle.table.specs.Table.{table_of, read_table, defs_of}
 use Rattle.extension.specs.Value.{find_value}
 use Rattle.extension.specs.declared.Extension.{Extension}
 use Rattle.table.specs.declared.Table.{Table}
-use Rattle.held.specs.declared.{Slot.Slot, Held.Held}
-use Rattle.held.specs.declared.Slot.TheVariants.{Never, Spoiled, Set}
+use Rattle.held.specs.declared.Held.{Held}
 
 -- A table is in force.
-unfoldable pub is_set : Slot → Bool
-is_set Never = false
-is_set Spoiled = false
-is_set Set = true
+unfoldable pub is_set : Held → Bool
+is_set Held.Never = false
+is_set Held.Spoiled = false
+is_set (Held.Set t) = true
 
--- 99 empty slots, and no line of the letter so far.
-unfoldable pub no_table : Held
-no_table = record { table = table_of []; slot = Never }
+-- No line of the letter so far.
+abbrev pub no_table : Held
+no_table = Held.Never
 
--- 99 empty slots, and the last line of the letter was refused.
-unfoldable pub spoiled : Held
-spoiled = record { table = table_of []; slot = Spoiled }
+-- The last line of the letter was refused.
+abbrev pub spoiled : Held
+spoiled = Held.Spoiled
 
--- What a line of the letter leaves: its table, or none where it is refused, and the mark of that.
+-- What a line of the letter leaves: its table, or where it is refused none, and the mark of that.
 unfoldable pub set_by_of : Res (List Extension) → Held
-set_by_of (ok ds) = record { table = table_of ds; slot = Set }
+set_by_of (ok ds) = Held.Set (table_of ds)
 set_by_of (no n) = spoiled
 
 -- What is held after a line: an accepted line of the letter replaces the table, a refused one spoils it, also where
@@ -46,15 +45,15 @@ first_named_of name [] = no NotDefined
 first_named_of name (e ∷ es) = pick (same_name e.mnemonic name) (ok e) (first_named_of name es)
 
 -- The table in force: 13 where no line of the letter came so far, 14 where the last one was refused.
-unfoldable pub in_force : Slot → Table → Res Table
-in_force Never t = no NoTable
-in_force Spoiled t = no SpoiledTable
-in_force Set t = ok t
+unfoldable pub in_force : Held → Res Table
+in_force Held.Never = no NoTable
+in_force Held.Spoiled = no SpoiledTable
+in_force (Held.Set t) = ok t
 
 -- The definition in force of that name: 13 or 14 where there is no table; a count over 99, or no such name, is 15.
 unfoldable pub define : Held → Mnemonic → Res Extension
 define h name =
-    bind (in_force h.slot h.table) (λ t.
+    bind (in_force h) (λ t.
     guard (t.count ≤? 99) NotDefined
     (first_named_of name (defs_of t)))
 

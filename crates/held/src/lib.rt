@@ -4,89 +4,54 @@
 pub mod tables;
 
 ghost use Rattle.std.specs.Prelude.{◌≡◌, ◌≤◌};
-ghost use Rattle.part.specs.Part.{found_res, shown, Shows};
-ghost use Rattle.extension.specs.Extension.{extension_res};
+ghost use Rattle.part.specs.Part.{shown, Shows};
 ghost use Rattle.table.specs.Table.{read_table, defs_of};
-ghost use Rattle.held.specs.Held.{no_table, set_by_of, held_after, same_name, first_named_of, define, look_up};
+ghost use Rattle.held.specs.Held.{no_table, set_by_of, held_after, first_named_of, define, look_up};
 
-use extension::ExtensionRead;
+use extension::Extension;
 use field::Mnemonic;
-use part::{Found, Part};
-use table::{Table, Verdict};
+use part::Part;
+use table::Table;
 use text::line::begins;
 use text::refusal::Refusal;
 
 // No line of the letter so far; the last one was refused; or its table is in force.
 #[derive(Clone, Copy)]
-pub enum Slot {
+pub enum Held {
     Never,
     Spoiled,
-    Set,
+    Set(Table),
 }
 
-#[derive(Clone, Copy)]
-pub struct Held {
-    pub table: Table,
-    pub slot: Slot,
-}
-
-fn same_name(a: Mnemonic, b: Mnemonic) -> bool
-    ensures { result ≡ same_name a b }
-{
-    if a.0 != b.0 {
-        return false;
-    }
-    if a.1 != b.1 {
-        return false;
-    }
-    a.2 == b.2
-}
-
-fn first_named(table: Table, name: Mnemonic) -> ExtensionRead
+// The first definition of that name among those that count.
+fn first_named(table: Table, name: Mnemonic) -> Result<Extension, Refusal>
     requires { table.count ≤ 99 }
-    ensures { extension_res result ≡ first_named_of name (defs_of table) }
+    ensures { result ≡ first_named_of name (defs_of table) }
 {
     let n = table.count as usize;
-    let mut i = 0;
-    while i < n {
-        let def = table.defs[i];
-        let mnemonic = def.mnemonic;
-        if same_name(mnemonic, name) {
-            return ExtensionRead::Ok(def);
+    for def in &table.defs[..n] {
+        if def.mnemonic == name {
+            return Ok(*def);
         }
-        i += 1;
     }
-    ExtensionRead::Refused(Refusal::NotDefined)
+    Err(Refusal::NotDefined)
 }
 
 impl Held {
-    // 99 empty slots, and no line of the letter so far.
+    // No line of the letter so far.
     pub fn new() -> Held
         ensures { result ≡ no_table }
     {
-        let table = Table::new();
-        Held {
-            table,
-            slot: Slot::Never,
-        }
+        Held::Never
     }
 
     // What a line of the letter leaves: its table, or where it is refused none, and the mark of that.
     pub fn set_by(line: &[u8]) -> Held
         ensures { result ≡ set_by_of (read_table line.now) }
     {
-        let read = Table::parse(line);
-        let table = read.table;
-        let verdict = read.verdict;
-        match verdict {
-            Verdict::Accepted => Held {
-                table,
-                slot: Slot::Set,
-            },
-            Verdict::Refused(_no) => Held {
-                table,
-                slot: Slot::Spoiled,
-            },
+        match Table::parse(line) {
+            Ok(table) => Held::Set(table),
+            Err(_no) => Held::Spoiled,
         }
     }
 
@@ -101,17 +66,15 @@ impl Held {
     }
 
     // The definition in force of that name.
-    pub fn define(self, name: Mnemonic) -> ExtensionRead
-        ensures { extension_res result ≡ define self name }
+    pub fn define(self, name: Mnemonic) -> Result<Extension, Refusal>
+        ensures { result ≡ define self name }
     {
-        let slot = self.slot;
-        let table = self.table;
-        match slot {
-            Slot::Never => ExtensionRead::Refused(Refusal::NoTable),
-            Slot::Spoiled => ExtensionRead::Refused(Refusal::SpoiledTable),
-            Slot::Set => {
+        match self {
+            Held::Never => Err(Refusal::NoTable),
+            Held::Spoiled => Err(Refusal::SpoiledTable),
+            Held::Set(table) => {
                 if 99 < table.count {
-                    return ExtensionRead::Refused(Refusal::NotDefined);
+                    return Err(Refusal::NotDefined);
                 }
                 first_named(table, name)
             }
@@ -119,13 +82,10 @@ impl Held {
     }
 
     // Where the value of that name stands in a line with `base` fixed columns and this rest.
-    pub fn find(self, base: usize, rest: Part, name: Mnemonic, line: &[u8]) -> Found
-        ensures { found_res result ≡ look_up base rest self name line.now }
+    pub fn find(self, base: usize, rest: Part, name: Mnemonic, line: &[u8]) -> Result<Part, Refusal>
+        ensures { result ≡ look_up base rest self name line.now }
     {
-        match self.define(name) {
-            ExtensionRead::Ok(extension) => extension.find(base, rest, line),
-            ExtensionRead::Refused(no_definition) => Found::Refused(no_definition),
-        }
+        self.define(name)?.find(base, rest, line)
     }
 
     // The value itself, as a part of the caller's own line.
@@ -133,8 +93,8 @@ impl Held {
         ensures { Shows line.entry (shown (look_up base rest self name line.now)) result }
     {
         match self.define(name) {
-            ExtensionRead::Ok(extension) => extension.get_extension(base, rest, line),
-            ExtensionRead::Refused(_no) => &line[0..0],
+            Ok(extension) => extension.get_extension(base, rest, line),
+            Err(_no) => &line[0..0],
         }
     }
 }

@@ -13,12 +13,14 @@ pub struct Tables {
 
 impl Tables {
     // No table of either letter.
+    #[tactic(auto, unfolding(crate::specs::Tables::no_tables))]
     pub fn new() -> Tables
         ensures { result ≡ no_tables }
     {
-        let i = Held::new();
-        let j = Held::new();
-        Tables { i, j }
+        Tables {
+            i: Held::new(),
+            j: Held::new(),
+        }
     }
 
     // What is held after a line: I lines set or spoil the one table, J lines the other.
@@ -26,14 +28,16 @@ impl Tables {
         ensures { result ≡ tables_after self line.now }
     {
         if begins(b'I', line) {
-            let set = Held::set_by(line);
-            let j = self.j;
-            return Tables { i: set, j };
+            return Tables {
+                i: Held::set_by(line),
+                j: self.j,
+            };
         }
         if begins(b'J', line) {
-            let i = self.i;
-            let set = Held::set_by(line);
-            return Tables { i, j: set };
+            return Tables {
+                i: self.i,
+                j: Held::set_by(line),
+            };
         }
         self
     }

@@ -5,7 +5,7 @@ ghost use Rattle.std.specs.Prelude.{◌≡◌, ◌+◌, ◌≤◌, ◌<◌, leng
 ghost use Rattle.part.specs.Part.{find_part, shown, Shows};
 ghost use Rattle.igc_log.specs.Line.{up_to, has_lf_of, end_of, cut_at};
 
-use part::Part;
+use part::{InLine, Part};
 
 // A line as a part of the log, and the place after it.
 #[derive(Clone, Copy)]
@@ -16,16 +16,15 @@ pub struct Cut {
 
 // The place of the first LF from `at` on, or the log's end: byte by byte.
 fn lf_tail(log: &[u8], at: usize) -> usize
+    requires { at ≤ length log.now }
     ensures { result ≡ at + up_to (drop at log.now) }
 {
-    let mut i = at;
-    while i < log.len() {
+    for i in at..log.len() {
         if log[i] == b'\n' {
             return i;
         }
-        i += 1;
     }
-    i
+    log.len()
 }
 
 // Some byte is an LF. With no way out of the loop but its end the compiler tests a block at once.
@@ -33,12 +32,10 @@ fn has_lf(block: &[u8]) -> bool
     ensures { result ≡ has_lf_of block.now }
 {
     let mut any = false;
-    let mut i = 0;
-    while i < block.len() {
-        if block[i] == b'\n' {
+    for b in block {
+        if *b == b'\n' {
             any = true;
         }
-        i += 1;
     }
     any
 }

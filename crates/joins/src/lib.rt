@@ -9,9 +9,9 @@ use files::input::open;
 use files::output::write_all;
 use files::say::{fail, fail_at, refuse, write_block};
 use files::system::{Sink, System, buffer};
-use sheet_file::{Ended, read_file};
+use sheet_file::{NoTotal, read_file};
 use sheet_text::put_all;
-use total::{Total, Verdict};
+use total::Total;
 
 // The total so far, and whether every sheet went into it.
 #[derive(Clone, Copy)]
@@ -20,7 +20,7 @@ struct Halves {
     whole: bool,
 }
 
-// Lines go by through this; a block is far shorter.
+// Lines go by through this; a block is far shorter. The rooms here are fixed, since there is no heap.
 fn window() -> [u8; 1048576]
     ensures { 1048576 ≡ length result }
 {
@@ -38,9 +38,8 @@ fn say_line(sys: &System, file: &[u8], line: u64, what: &[u8]) {
 fn without(before: Halves) -> Halves
     ensures { halves_in result ≡ not_whole (halves_in before) }
 {
-    let total = before.total;
     Halves {
-        total,
+        total: before.total,
         whole: false,
     }
 }
@@ -49,18 +48,12 @@ fn without(before: Halves) -> Halves
 fn after_total(sys: &System, before: Halves, file: &[u8], next: Total) -> Halves
     ensures { halves_in result ≡ joined_on (halves_in before) (join_res (total_in before.total) (total_in next)) }
 {
-    let total = before.total;
-    let joined = total.join(next);
-    let verdict = joined.verdict;
-    match verdict {
-        Verdict::Fits => {
-            let sum = joined.total;
-            Halves {
-                total: sum,
-                whole: before.whole,
-            }
-        }
-        Verdict::TooLarge => {
+    match before.total.join(next) {
+        Ok(total) => Halves {
+            total,
+            whole: before.whole,
+        },
+        Err(_) => {
             refuse(
                 sys,
                 file,
@@ -77,15 +70,12 @@ fn after_file(sys: &System, before: Halves, file: &[u8], win: &mut [u8]) -> Halv
         fail(sys, file, b"cannot be opened");
         return without(before);
     };
-    let read = read_file(sys, &from, win);
-    let next = read.total;
-    let ended = read.ended;
-    match ended {
-        Ended::Whole => {
+    match read_file(sys, &from, win) {
+        Ok(total) => {
             sys.close(from);
-            after_total(sys, before, file, next)
+            after_total(sys, before, file, total)
         }
-        Ended::Wrong(line) => {
+        Err(NoTotal::Wrong(line)) => {
             sys.close(from);
             say_line(
                 sys,
@@ -95,7 +85,7 @@ fn after_file(sys: &System, before: Halves, file: &[u8], win: &mut [u8]) -> Halv
             );
             without(before)
         }
-        Ended::TooLong(line) => {
+        Err(NoTotal::TooLong(line)) => {
             sys.close(from);
             say_line(
                 sys,
@@ -105,7 +95,7 @@ fn after_file(sys: &System, before: Halves, file: &[u8], win: &mut [u8]) -> Halv
             );
             without(before)
         }
-        Ended::NotRead => {
+        Err(NoTotal::NotRead) => {
             fail(sys, file, b"cannot be read to its end");
             sys.close(from);
             without(before)
@@ -116,11 +106,10 @@ fn after_file(sys: &System, before: Halves, file: &[u8], win: &mut [u8]) -> Halv
 // After the sheet that the argument i names.
 fn after_argument(sys: &System, before: Halves, i: usize, win: &mut [u8]) -> Halves {
     let mut file = buffer();
-    let n = sys.arg(i, &mut file);
-    if sys.errno() != 0 {
+    let Ok(n) = sys.arg(i, &mut file) else {
         fail(sys, b"a file's name", b"cannot be taken");
         return without(before);
-    }
+    };
     after_file(sys, before, &file[0..n], win)
 }
 
@@ -130,10 +119,8 @@ fn after_words(sys: &System, first: usize, words: usize, win: &mut [u8]) -> Halv
         total: Total::new(),
         whole: true,
     };
-    let mut i = first;
-    while i < words {
+    for i in first..words {
         halves = after_argument(sys, halves, i, win);
-        i += 1;
     }
     halves
 }
@@ -147,10 +134,9 @@ pub fn run_join(sys: &System, first: usize, told: Sink) {
     if !halves.whole {
         return;
     }
-    let total = halves.total;
     let mut out = buffer();
-    let end = put_all(&mut out, 0, total);
+    let end = put_all(&mut out, 0, halves.total);
     if write_block(sys, &mut out, end) {
-        write_all(sys, told, b"0");
+        let _ = write_all(sys, told, b"0");
     }
 }

@@ -1,12 +1,12 @@
 -- K lines: data beside the fixes, in columns that the J line names.
 use Rattle.std.specs.Prelude.{◌∷◌, ◌++◌}
-use Rattle.text.specs.Prelude.{code, Bool, List, ℕ, [], length, Res, ok, no, bind, guard, ◌≤?◌, ◌=?◌}
+use Rattle.text.specs.Prelude.{code, Bool, List, ℕ, [], length, Res, ok, bind, guard, ◌≤?◌, ◌=?◌}
 use Rattle.text.specs.Prelude.{byte, columns}
 use Rattle.part.specs.Part.{rest_from, part_text, part_bytes}
 use Rattle.text.specs.declared.refusal.Refusal.TheVariants.{Syntax}
 use Rattle.field.specs.Field.{ascii}
 use Rattle.time.specs.Time.{read_time_of, time_text, time_book}
-use Rattle.k_record.specs.declared.{KRecord.KRecord, KRead.KRead}
+use Rattle.k_record.specs.declared.{KRecord.KRecord}
 
 -- Time 1-7, and the rest.
 unfoldable pub read_timed : List ℕ → Res KRecord
@@ -31,9 +31,3 @@ k_text r s = bind (part_text r.rest s) (λ rest. ok (k_body r rest))
 -- By the book: its time is.
 unfoldable pub k_book : KRecord → Bool
 k_book r = time_book r.time
-
--- ---- the answers of the code
-
-abbrev pub k_res : KRead → Res KRecord
-k_res (KRead.Ok v) = ok v
-k_res (KRead.Refused n) = no n

@@ -1,11 +1,11 @@
 -- L lines: remarks, and who or what wrote them.
 use Rattle.std.specs.Prelude.{◌∷◌, ◌++◌}
-use Rattle.text.specs.Prelude.{ℕ, code, List, [], length, Res, ok, no, bind, guard, ◌≤?◌, ◌=?◌}
+use Rattle.text.specs.Prelude.{ℕ, code, List, [], length, Res, ok, bind, guard, ◌≤?◌, ◌=?◌}
 use Rattle.text.specs.Prelude.{byte, cut}
 use Rattle.text.specs.declared.refusal.Refusal.TheVariants.{Syntax}
 use Rattle.part.specs.Part.{name_from, part_text, maybe_text, part_bytes, maybe_bytes}
 use Rattle.field.specs.Field.{ascii_in}
-use Rattle.l_record.specs.declared.{LRecord.LRecord, LRead.LRead}
+use Rattle.l_record.specs.declared.{LRecord.LRecord}
 
 -- Under 4 bytes 1; a first byte other than L 1; 0-4 ASCII (2); source 1-4, text; an empty text is none.
 unfoldable pub read_l : List ℕ → Res LRecord
@@ -29,9 +29,3 @@ l_text r s =
     bind (part_text r.source s) (λ source.
     bind (maybe_text r.text s) (λ text.
     ok (l_body source text)))
-
--- ---- the answers of the code
-
-abbrev pub l_res : LRead → Res LRecord
-l_res (LRead.Ok v) = ok v
-l_res (LRead.Refused n) = no n

@@ -3,46 +3,39 @@
 
 ghost use Rattle.std.specs.Prelude.{◌≡◌};
 ghost use Rattle.part.specs.Part.{find_part, find_maybe, shown, Shows};
-ghost use Rattle.put.specs.Put.{Wrote};
 ghost use Rattle.print.specs.Print.{Prints};
-ghost use Rattle.l_record.specs.LRecord.{read_l, l_piece, l_text, l_res};
+ghost use Rattle.l_record.specs.LRecord.{read_l, l_piece, l_text};
 
 use field::is_ascii;
-use part::{Found, MaybePart, Part};
-use print::printed::Printed;
-use put::{put_byte, put_maybe, put_part};
+use part::{InLine, Part};
+use print::printed::{LinePiece, print_beside};
+use put::{put_byte, put_part};
 use text::refusal::Refusal;
 
 // A remark, and who or what wrote it: a maker's code, or as PLT the pilot's.
 #[derive(Clone, Copy)]
 pub struct LRecord {
     pub source: Part,
-    pub text: MaybePart,
-}
-
-#[derive(Clone, Copy)]
-pub enum LRead {
-    Ok(LRecord),
-    Refused(Refusal),
+    pub text: Option<Part>,
 }
 
 impl LRecord {
     // Reads an L line.
-    pub fn parse(line: &[u8]) -> LRead
-        ensures { l_res result ≡ read_l line.now }
+    pub fn parse(line: &[u8]) -> Result<LRecord, Refusal>
+        ensures { result ≡ read_l line.now }
     {
         if line.len() < 4 {
-            return LRead::Refused(Refusal::Syntax);
+            return Err(Refusal::Syntax);
         }
         if line[0] != b'L' {
-            return LRead::Refused(Refusal::Syntax);
+            return Err(Refusal::Syntax);
         }
         if !is_ascii(&line[0..4]) {
-            return LRead::Refused(Refusal::NotAscii);
+            return Err(Refusal::NotAscii);
         }
-        LRead::Ok(LRecord {
+        Ok(LRecord {
             source: Part { start: 1, len: 3 },
-            text: MaybePart::from_column(4, line),
+            text: Part::from_column_or_none(4, line),
         })
     }
 
@@ -50,47 +43,33 @@ impl LRecord {
     pub fn source(self, line: &[u8]) -> &[u8]
         ensures { Shows line.entry (shown (find_part self.source line.now)) result }
     {
-        let source = self.source;
-        source.view(line)
+        self.source.view(line)
     }
 
     // The text, as a part of the caller's own line.
     pub fn text(self, line: &[u8]) -> &[u8]
         ensures { Shows line.entry (shown (find_maybe self.text line.now)) result }
     {
-        let text = self.text;
-        text.view(line)
-    }
-
-    // The text as a piece of a larger one, from a place on: bytes that are too short cut it, and what lies outside the
-    // line is left out. `print` is the printer.
-    pub fn put_piece(self, buf: &mut [u8], at: usize, line: &[u8]) -> usize
-        ensures { Wrote buf.old at (l_piece self line.now) buf.new result }
-    {
-        let source = self.source;
-        let text = self.text;
-        let at_source = put_byte(buf, at, b'L');
-        let at_text = put_part(buf, at_source, line, source);
-        put_maybe(buf, at_text, line, text)
+        self.text.view(line)
     }
 
     // Prints the record beside its line.
-    pub fn print(self, line: &[u8], buf: &mut [u8]) -> Printed
+    pub fn print(self, line: &[u8], buf: &mut [u8]) -> Result<usize, Refusal>
         ensures { Prints (l_text self line.now) buf.old buf.new result }
     {
-        let source = self.source;
-        let text = self.text;
-        match source.find(line) {
-            Found::Refused(no_source) => Printed::Refused(no_source),
-            Found::At(_source) => match text.find(line) {
-                Found::Refused(no_text) => Printed::Refused(no_text),
-                Found::At(_text) => {
-                    if buf.len() < self.put_piece(&mut [], 0, line) {
-                        return Printed::Refused(Refusal::NoRoom);
-                    }
-                    Printed::Written(self.put_piece(buf, 0, line))
-                }
-            },
-        }
+        self.source.find(line)?;
+        self.text.find(line)?;
+        print_beside(self, line, buf)
+    }
+}
+
+// The text as a piece of a larger one.
+impl LinePiece for LRecord {
+    ghost piece = { l_piece };
+
+    fn put_piece(self, buf: &mut [u8], at: usize, line: &[u8]) -> usize {
+        let at_source = put_byte(buf, at, b'L');
+        let at_text = put_part(buf, at_source, line, self.source);
+        put_part(buf, at_text, line, self.text)
     }
 }

@@ -5,7 +5,6 @@ use Rattle.part.specs.Part.{part_bytes}
 use Rattle.put.specs.Put.{Wrote}
 use Rattle.put.proofs.Writing.{then}
 use Rattle.put.proofs.Writing as writing
-use Rattle.records.specs.Record.{reading_res}
 use Rattle.igc_log.specs.Fold.{texts, fresh, read_on}
 use Rattle.igc_log.proofs.Pieces.{all_read, no_text}
 use Rattle.igc_log.proofs.Reached as fold
@@ -55,8 +54,8 @@ module _ {log b₀ b : List ℕ} {at₀ end place : ℕ} {t : Trailer} (f : Tell
   -- a line that was counted and then written
   pub line : {g : Got} {l b' : List ℕ} {to : ℕ} {t' : Trailer} → place < length log → g ≡ got_at place log →
       l ≡ part_bytes g.line log →
-      t' ≡ tallied t place l (reading_res g.reading) → Wrote b end
-      (listing_line t'.lines l (reading_res g.reading)) b' to →
+      t' ≡ tallied t place l g.reading → Wrote b end
+      (listing_line t'.lines l g.reading) b' to →
       Telling log b₀ at₀ b' t' to g.next
   unfolding count_step counted line_of nothing
   line {g} i e v k w =

@@ -4,19 +4,18 @@ ghost use Rattle.print.specs.Print.{Prints};
 ghost use Rattle.listing_text.specs.Paper.{paper_text};
 
 use crate::listing::print_listing;
-use print::printed::Printed;
 use put::put_bytes;
 use text::refusal::Refusal;
 
 // The listing, or that the log is too long.
-pub fn print_paper(log: &[u8], buf: &mut [u8]) -> Printed
+pub fn print_paper(log: &[u8], buf: &mut [u8]) -> Result<usize, Refusal>
     ensures { Prints (ok (paper_text log.now)) buf.old buf.new result }
 {
     if log.len() <= 65536 {
         return print_listing(log, buf);
     }
     if buf.len() < 9 {
-        return Printed::Refused(Refusal::NoRoom);
+        return Err(Refusal::NoRoom);
     }
-    Printed::Written(put_bytes(buf, 0, b"too long\n"))
+    Ok(put_bytes(buf, 0, b"too long\n"))
 }

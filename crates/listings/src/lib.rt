@@ -12,7 +12,7 @@ use names::read_names;
 use products::Product;
 use stream::run;
 
-// A line is at most this long.
+// A line is at most this long. The rooms here are fixed, since there is no heap.
 fn window() -> [u8; 1048576]
     ensures { 1048576 ≡ length result }
 {
@@ -57,11 +57,10 @@ fn run_file(sys: &System, product: Product, file: &[u8], names: &[u8], told: Sin
 // The file is the argument `at`.
 fn run_named(sys: &System, product: Product, at: usize, names: &[u8], told: Sink) {
     let mut file = buffer();
-    let n = sys.arg(at, &mut file);
-    if sys.errno() != 0 {
+    let Ok(n) = sys.arg(at, &mut file) else {
         fail(sys, b"the file's name", b"cannot be taken");
         return;
-    }
+    };
     run_file(sys, product, &file[0..n], names, told);
 }
 
@@ -70,7 +69,7 @@ pub fn run_list(sys: &System, at: usize, told: Sink) {
     let words = sys.arg_count();
     if at < words {
         if words - at > 1 {
-            write_all(sys, Sink::Errors, b"tokelivo: list takes one file\n");
+            let _ = write_all(sys, Sink::Errors, b"tokelivo: list takes one file\n");
             return;
         }
     }
@@ -134,7 +133,7 @@ pub fn run_positions(sys: &System, at: usize, told: Sink) {
         return;
     }
     if words - at > 1 {
-        write_all(sys, Sink::Errors, b"tokelivo: positions takes one file\n");
+        let _ = write_all(sys, Sink::Errors, b"tokelivo: positions takes one file\n");
         return;
     }
     run_named(sys, Product::Positions, at, b"", told);

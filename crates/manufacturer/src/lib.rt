@@ -3,12 +3,10 @@
 #![tactic(auto)]
 
 ghost use Rattle.std.specs.Prelude.{◌≡◌, ℕ, ◌<◌, get_or};
-ghost use Rattle.text.specs.Res.{pick, ◌=?◌};
-ghost use Rattle.manufacturer.specs.Maker.{letter_of_lem, triple_of, known, letter_maker, triple_maker, triple_number};
+ghost use Rattle.manufacturer.specs.Maker.{letter_of_lem, triple_of, known, letter_maker, triple_maker};
+ghost use Rattle.manufacturer.specs.Maker.{row_letter, is_letter};
 
 use Manufacturer::*;
-use MaybeLetter::Letter;
-use MaybeTriple::Triple;
 use field::Mnemonic;
 
 #[derive(Clone, Copy)]
@@ -40,24 +38,11 @@ pub enum Manufacturer {
     UnknownTriple(Mnemonic),
 }
 
-// A code that a maker may lack.
-#[derive(Clone, Copy)]
-pub enum MaybeLetter {
-    Missing,
-    Letter(u8),
-}
-
-#[derive(Clone, Copy)]
-pub enum MaybeTriple {
-    Missing,
-    Triple(Mnemonic),
-}
-
 // A row of the list: a maker's letter, or NONE, its triple, and the maker.
 #[derive(Clone, Copy)]
 struct Row(u8, Mnemonic, Manufacturer);
 
-// Stands in a row for the letter of a maker that has none. It is a byte, and no `MaybeLetter`, so that a search
+// Stands in a row for the letter of a maker that has none. It is a byte, and no `Option<u8>`, so that a search
 // compares one byte a row: of such a search the compiler makes a table.
 const NONE: u8 = 0;
 
@@ -65,10 +50,11 @@ const NONE: u8 = 0;
 const KNOWN: usize = 23;
 
 // The list of makers, a row a place. No code of a maker stands anywhere else.
+#[tactic(auto, unfolding(crate::specs::Maker::letter_of_lem, crate::specs::Maker::triple_of))]
 fn listed(place: usize) -> Row
     requires { place < 23 }
-    ensures { (result.2 ≡ get_or known place Manufacturer.Zander) × (MaybeTriple.Triple result.1 ≡ triple_of result.2)
-        × (pick (result.0 =? 0) MaybeLetter.Missing (MaybeLetter.Letter result.0) ≡ letter_of_lem result.2) }
+    ensures { (result.2 ≡ get_or known place Manufacturer.Zander) × (Some result.1 ≡ triple_of result.2)
+        × (row_letter result.0 ≡ letter_of_lem result.2) }
 {
     match place {
         0 => Row(b'I', Mnemonic(b'A', b'C', b'T'), Aircotec),
@@ -97,42 +83,38 @@ fn listed(place: usize) -> Row
     }
 }
 
-// Three bytes as one number, so that one comparison decides on all of them.
-fn number(triple: Mnemonic) -> u32
-    ensures { result ≡ triple_number triple }
+// The row's maker has the letter.
+fn has_letter(row: Row, letter: u8) -> bool
+    ensures { result ≡ is_letter letter (row_letter row.0) }
 {
-    (triple.0 as u32) * 65536 + (triple.1 as u32) * 256 + (triple.2 as u32)
+    row.0 == letter && letter != NONE
 }
 
 impl Manufacturer {
     // The maker of a letter; a letter that no maker has is carried.
+    #[tactic(auto, unfolding(crate::specs::Maker::letter_maker))]
     pub fn parse_single_char(letter: u8) -> Manufacturer
         ensures { result ≡ letter_maker letter }
     {
-        let mut place = 0;
-        while place < KNOWN {
+        for place in 0..KNOWN {
             let row = listed(place);
-            if row.0 == letter && letter != NONE {
+            if has_letter(row, letter) {
                 return row.2;
             }
-            place += 1;
         }
         UnknownSingle(letter)
     }
 
     // The maker of a triple; a triple that no maker has is carried.
+    #[tactic(auto, unfolding(crate::specs::Maker::triple_maker))]
     pub fn parse_triple_char(triple: Mnemonic) -> Manufacturer
         ensures { result ≡ triple_maker triple }
     {
-        let wanted = number(triple);
-        let mut place = 0;
-        while place < KNOWN {
+        for place in 0..KNOWN {
             let row = listed(place);
-            let own = row.1;
-            if number(own) == wanted {
+            if triple == row.1 {
                 return row.2;
             }
-            place += 1;
         }
         UnknownTriple(triple)
     }
@@ -173,33 +155,34 @@ impl Manufacturer {
     }
 
     // The maker's letter, where it has one.
-    pub fn to_single_char(self) -> MaybeLetter
+    #[tactic(auto, unfolding(crate::specs::Maker::letter_of_lem))]
+    pub fn to_single_char(self) -> Option<u8>
         ensures { result ≡ letter_of_lem self }
     {
         match self {
-            UnknownSingle(own) => Letter(own),
-            UnknownTriple(_) => MaybeLetter::Missing,
+            UnknownSingle(own) => Some(own),
+            UnknownTriple(_) => None,
             _ => {
                 let row = listed(self.place());
                 if row.0 == NONE {
-                    return MaybeLetter::Missing;
+                    return None;
                 }
-                Letter(row.0)
+                Some(row.0)
             }
         }
     }
 
     // The maker's triple, where it has one.
-    pub fn to_triple_char(self) -> MaybeTriple
+    #[tactic(auto, unfolding(crate::specs::Maker::triple_of))]
+    pub fn to_triple_char(self) -> Option<Mnemonic>
         ensures { result ≡ triple_of self }
     {
         match self {
-            UnknownSingle(_) => MaybeTriple::Missing,
-            UnknownTriple(own) => Triple(own),
+            UnknownSingle(_) => None,
+            UnknownTriple(own) => Some(own),
             _ => {
                 let row = listed(self.place());
-                let own = row.1;
-                Triple(own)
+                Some(row.1)
             }
         }
     }

@@ -1,14 +1,15 @@
 -- A log's own index answers as the plain walk does.
+use Rattle.b_record.specs.declared.BRecord.{BRecord}
+use Rattle.text.specs.Prelude.{Option, None, Some}
 use Rattle.text.specs.Prelude.{ℕ, zero, suc, ◌+◌, ◌≤◌, ◌<◌, ◌≡◌, List, [], ◌∷◌, length, drop, ok, no}
 use Rattle.text.specs.Prelude.{Res, ◌≤?◌, ◌=?◌}
 use Rattle.text.proofs.Prelude.{arith, refl, sym, ap, ◌∙◌, first, second, is≤, isnt≤, both, by_test}
-use mathlib.Core.Option.{Option, none, some}
+use mathlib.Core.Option.{Option as Maybe, none, some}
 use Rattle.text.specs.declared.refusal.Refusal.TheVariants.{OutOfRange}
 use Rattle.text.proofs.Finds.{Finds, finds_ok, finds_guard}
 use Rattle.time.specs.Time.{time_of}
 use Rattle.time.specs.declared.Time.{Time}
 use Rattle.records.specs.Record.{answer_fix}
-use Rattle.records.specs.declared.MaybeFix.{MaybeFix}
 use Rattle.igc_log.specs.Line.{cut_at}
 use Rattle.igc_log.specs.Log.{chunks, read_from, readings}
 use Rattle.igc_log.specs.Fold.{or_else, first_with}
@@ -25,14 +26,14 @@ use Rattle.moment.proofs.Searching.{read_here, line_here, first_here, first_past
 
 -- ---- something or nothing
 
-not_some : {A B : Type 0} {x : Option A} {a : A} → x ≡ some a → x ≡ none → B
+not_some : {A B : Type 0} {x : Maybe A} {a : A} → x ≡ some a → x ≡ none → B
 not_some p q = let z : ◌≡◌ {A = ℕ} 0 1 = cc in let f : ⊥ = omega arith in absurd f
 
-by_option : {A B : Type 0} (o : Option A) → ((a : A) → o ≡ some a → B) → (o ≡ none → B) → B
+by_option : {A B : Type 0} (o : Maybe A) → ((a : A) → o ≡ some a → B) → (o ≡ none → B) → B
 by_option none f g = g refl
 by_option (some a) f g = f a refl
 
-both_none : {A : Type 0} (a b : Option A) → or_else a b ≡ none → (a ≡ none) × (b ≡ none)
+both_none : {A : Type 0} (a b : Maybe A) → or_else a b ≡ none → (a ≡ none) × (b ≡ none)
 unfolding or_else
 both_none none b e = (refl, e)
 both_none (some p) b e = not_some refl e
@@ -41,13 +42,13 @@ both_none (some p) b e = not_some refl e
 
 module _ (t : Time) where
   -- a line that is in another hour has another time
-  no_time : (p : ℕ) (m : MaybeFix) → in_hour t.hours p m ≡ none → spot_at p (with_time_of t m) ≡ none
+  no_time : (p : ℕ) (m : Option BRecord) → in_hour t.hours p m ≡ none → spot_at p (with_time_of t m) ≡ none
   unfolding in_hour with_time_of spot_at same_time_of
-  no_time p (MaybeFix.Fix b) e =
+  no_time p (Some b) e =
       by_test (same_time_of b.timestamp t)
       (λ q. not_some (sym (first _ (both q).0 refl)) e)
-      (λ q. ap (spot_at p) (sym (second (MaybeFix.Fix b) q refl)))
-  no_time p MaybeFix.Missing e = refl
+      (λ q. ap (spot_at p) (sym (second (Some b) q refl)))
+  no_time p None e = refl
 
   other_hour : (x : LineReading) → hour_at t.hours x ≡ none → fix_at t x ≡ none
   unfolding hour_at fix_at
@@ -69,13 +70,13 @@ module _ (t : Time) where
   any_walk n n' p h h' (k ∷ ks) = ap (or_else _) (any_walk (n + 1) (n' + 1) (p + length k) _ _ ks)
 
 -- a line in an hour is known by its own place
-own_place : (h p : ℕ) (m : MaybeFix) {q : ℕ} → in_hour h p m ≡ some q → p ≡ q
+own_place : (h p : ℕ) (m : Option BRecord) {q : ℕ} → in_hour h p m ≡ some q → p ≡ q
 unfolding in_hour
-own_place h p (MaybeFix.Fix b) e =
+own_place h p (Some b) e =
     by_test (b.timestamp.hours =? h)
     (λ k. let same : some p ≡ some _ = first _ k refl ∙ e in cc)
     (λ k. not_some e (sym (second _ k refl)))
-own_place h p MaybeFix.Missing e = not_some e refl
+own_place h p None e = not_some e refl
 
 line_place : (h : ℕ) (x : LineReading) {q : ℕ} → hour_at h x ≡ some q → x.place ≡ q
 unfolding hour_at
@@ -84,7 +85,7 @@ line_place h x e = own_place h x.place (answer_fix x.answer) e
 -- ---- the first fix of the hour, and the first with the time
 
 module _ (t : Time) (s : List ℕ) (p : ℕ) where
-  abbrev in_it : LineReading → Option ℕ
+  abbrev in_it : LineReading → Maybe ℕ
   in_it = hour_at t.hours
 
   -- from a line's start on: the search may as well begin at the first fix of the hour

@@ -1,12 +1,12 @@
 -- The loop that looks for a time: what is left of the log, from here, has what it had from the first place on.
+use Rattle.text.specs.Prelude.{None, Some}
 use Rattle.text.specs.Prelude.{ℕ, ◌+◌, ◌-◌, ◌≤◌, ◌<◌, ◌≡◌, List, length, drop}
 use Rattle.text.proofs.Prelude.{arith, refl, sym, ap, ◌∙◌}
-use mathlib.Core.Option.{Option, none, some}
+use mathlib.Core.Option.{Option as Maybe, none, some}
 use Rattle.part.specs.Part.{bytes_of}
 use Rattle.time.specs.declared.Time.{Time}
 use Rattle.b_record.specs.declared.BRecord.{BRecord}
-use Rattle.records.specs.Record.{read_line_of, reading_res, answer_fix}
-use Rattle.records.specs.declared.MaybeFix.{MaybeFix}
+use Rattle.records.specs.Record.{read_line_of, answer_fix}
 use Rattle.igc_log.specs.Line.{cut_at}
 use Rattle.igc_log.specs.Log.{chunks, read_from}
 use Rattle.igc_log.specs.Fold.{or_else, first_with}
@@ -15,7 +15,6 @@ use Rattle.held.specs.declared.tables.Tables.{Tables}
 use Rattle.walk.specs.Readings.{LineReading, reader}
 use Rattle.walk.specs.Turn.{got_at}
 use Rattle.walk.specs.declared.turn.Got.{Got}
-use Rattle.walk.proofs.Laws.{viewed}
 use Rattle.moment_fix.specs.Fix.{with_time_of}
 use Rattle.moment.specs.Moment.{spot_at, fix_at, found_from}
 
@@ -29,7 +28,7 @@ line_here s n at t =
     let l = bytes_of (cut_at at s).line s in
     record { number = n + 1; place = at; line = l; answer = read_line_of l; held = reader.after at t l }
 
-module _ {A : Type 0} (f : LineReading → Option A) (s : List ℕ) (n at : ℕ) (t : Tables) where
+module _ {A : Type 0} (f : LineReading → Maybe A) (s : List ℕ) (n at : ℕ) (t : Tables) where
   -- the first line that has something is the one here, or stands behind it
   pub first_here : at < length s → first_with f (read_here s n at t) ≡
       or_else (f (line_here s n at t))
@@ -59,10 +58,10 @@ module _ {time : Time} {s : List ℕ} {start : ℕ} where
 
     module _ {g : Got} (i : at < length s) (e : g ≡ got_at at s) where
       -- the fix that was read here, if it has the time
-      here : with_time_of time (answer_fix (reading_res g.reading))
+      here : with_time_of time (answer_fix g.reading)
           ≡ with_time_of time (answer_fix (read_line_of (bytes_of (cut_at at s).line s)))
       unfolding got_at
-      here = rw (e, viewed _, cut_viewed s at (omega arith))
+      here = rw (e, cut_viewed s at (omega arith))
 
       first_or_later : or_else (spot_at at (with_time_of time (answer_fix (read_line_of (bytes_of (cut_at at s).line s)))))
           (first_with (fix_at time) (read_here s (left.number + 1) (cut_at at s).next
@@ -71,12 +70,12 @@ module _ {time : Time} {s : List ℕ} {start : ℕ} where
       unfolding fix_at
       first_or_later = sym (first_here (fix_at time) s left.number at left.held i) ∙ left.same
 
-      pub left_found : {b : BRecord} → MaybeFix.Fix b ≡ with_time_of time (answer_fix (reading_res g.reading)) →
+      pub left_found : {b : BRecord} → Some b ≡ with_time_of time (answer_fix g.reading) →
           some (record { place = at; fix = b }) ≡ found_from time start s
       unfolding spot_at or_else
       left_found q = rw (sym (q ∙ here)) at first_or_later
 
-      pub left_next : MaybeFix.Missing ≡ with_time_of time (answer_fix (reading_res g.reading)) →
+      pub left_next : None ≡ with_time_of time (answer_fix g.reading) →
           Left time s start g.next
       unfolding spot_at or_else got_at
       left_next q = record {

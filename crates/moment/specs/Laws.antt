@@ -1,11 +1,12 @@
 -- The log's own index answers as the plain walk does.
+use Rattle.text.specs.Prelude.{Some}
 use Rattle.std.specs.Prelude.{◌≤◌, ◌≡◌}
 use Rattle.text.specs.Prelude.{ℕ, List, length, Res, ok}
 use Rattle.time.specs.Time.{time_of}
 use Rattle.time.specs.declared.Time.{Time}
 use Rattle.moment_fix.specs.declared.Moment.{Moment}
 use Rattle.hours.specs.Hours.{held_for}
-use Rattle.hours.specs.declared.{First.First, Index.Index}
+use Rattle.hours.specs.declared.{Index.Index}
 use Rattle.moment.specs.Moment.{index_of, by_index, by_walk}
 
 pub record Moments : Type 0 where
@@ -16,8 +17,8 @@ pub record Moments : Type 0 where
   pub own_hour : (log : List ℕ) (m : Res Time) → ((t : Time) → m ≡ ok t → t.hours ≤ 24) →
       by_index (index_of log) log m ≡ by_walk log m
   -- With another log: a place past its end finds nothing,
-  pub past_end : (i : Index) (log : List ℕ) (t : Time) (p : ℕ) → held_for i t.hours ≡ First.At p → length log ≤ p →
+  pub past_end : (i : Index) (log : List ℕ) (t : Time) (p : ℕ) → held_for i t.hours ≡ Some p → length log ≤ p →
       by_index i log (ok t) ≡ Moment.NoSuchFix
   -- and from its start the search is the plain walk.
-  pub from_start : (i : Index) (log : List ℕ) (t : Time) → held_for i t.hours ≡ First.At 0 →
+  pub from_start : (i : Index) (log : List ℕ) (t : Time) → held_for i t.hours ≡ Some 0 →
       by_index i log (ok t) ≡ by_walk log (ok t)

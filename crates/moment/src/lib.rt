@@ -3,13 +3,14 @@
 #![tactic(auto)]
 
 ghost use Rattle.std.specs.Prelude.{◌≡◌};
-ghost use Rattle.time.specs.Time.{time_of, time_res};
+ghost use Rattle.time.specs.Time.{time_of};
 ghost use Rattle.moment.specs.Moment.{index_of, found, found_from, by_index, by_walk};
 
-use hours::{First, Hour, Index};
+use hours::{Hour, Index};
 use moment_fix::{Moment, hour_of, with_time};
-use records::MaybeFix;
-use time::{Time, TimeRead};
+use records::fix_in;
+use text::refusal::Refusal;
+use time::Time;
 use walk::turn::read_at;
 
 // The first fix with that time, from a place on: past the log's end there is none, and in the middle of a line the
@@ -20,12 +21,8 @@ fn search(log: &[u8], from: usize, time: Time) -> Moment
     let mut place = from;
     while place < log.len() {
         let got = read_at(log, place);
-        let reading = got.reading;
-        match with_time(reading.fix(), time) {
-            MaybeFix::Fix(fix) => {
-                return Moment::Found(place, fix);
-            }
-            MaybeFix::Missing => {}
+        if let Some(fix) = with_time(fix_in(got.reading), time) {
+            return Moment::Found(place, fix);
         }
         place = got.next;
     }
@@ -40,12 +37,9 @@ pub fn index_of(log: &[u8]) -> Index
     let mut place = 0;
     while place < log.len() {
         let got = read_at(log, place);
-        let reading = got.reading;
-        let hour = hour_of(reading.fix());
+        let hour = hour_of(fix_in(got.reading));
         if index.lacks(hour) {
-            index.hours[hour] = Hour {
-                first: First::At(place),
-            };
+            index.hours[hour] = Hour { first: Some(place) };
         }
         place = got.next;
     }
@@ -54,14 +48,14 @@ pub fn index_of(log: &[u8]) -> Index
 
 // The answer to a time, or to what was refused for one: the search begins at the place that is held for its hour.
 // With the log's own index it is that of the walk from the start.
-pub fn answer(index: Index, log: &[u8], time: TimeRead) -> Moment
-    ensures { result ≡ by_index index log.now (time_res time) }
+pub fn answer(index: Index, log: &[u8], time: Result<Time, Refusal>) -> Moment
+    ensures { result ≡ by_index index log.now time }
 {
     match time {
-        TimeRead::Refused(no) => Moment::Refused(no),
-        TimeRead::Ok(asked) => match index.first_in(asked.hours as usize) {
-            First::Nowhere => Moment::NoSuchFix,
-            First::At(place) => search(log, place, asked),
+        Err(no) => Moment::Refused(no),
+        Ok(asked) => match index.first_in(asked.hours as usize) {
+            None => Moment::NoSuchFix,
+            Some(place) => search(log, place, asked),
         },
     }
 }
@@ -78,7 +72,7 @@ pub fn find_by_walk(log: &[u8], hours: u8, minutes: u8, seconds: u8) -> Moment
     ensures { result ≡ by_walk log.now (time_of hours minutes seconds) }
 {
     match Time::from_hms(hours, minutes, seconds) {
-        TimeRead::Refused(no_time) => Moment::Refused(no_time),
-        TimeRead::Ok(time) => search(log, 0, time),
+        Err(no_time) => Moment::Refused(no_time),
+        Ok(time) => search(log, 0, time),
     }
 }

@@ -5,11 +5,11 @@ ghost use Rattle.std.specs.Prelude.{◌≡◌};
 ghost use Rattle.moment_fix.specs.Fix.{hour_of_lem, same_time_of, with_time_of, moment_number};
 
 use b_record::{BRecord, FixValid};
-use records::MaybeFix;
 use text::refusal::Refusal;
 use time::Time;
 
 // The place and the record of the fix; no fix has that time; or it is no time.
+// Each of the three has its number: a `Result` of an `Option` would say the same and nest the matches.
 #[derive(Clone, Copy)]
 pub enum Moment {
     Found(usize, BRecord),
@@ -18,12 +18,13 @@ pub enum Moment {
 }
 
 // The hours of a fix, marked A or V; a line that is none has 25, which no index holds.
-pub fn hour_of(fix: MaybeFix) -> usize
+#[tactic(auto, unfolding(crate::specs::Fix::hour_of_lem))]
+pub fn hour_of(fix: Option<BRecord>) -> usize
     ensures { result ≡ hour_of_lem fix }
 {
     match fix {
-        MaybeFix::Missing => 25,
-        MaybeFix::Fix(seen) => {
+        None => 25,
+        Some(seen) => {
             let valid = seen.fix_valid;
             let hours = seen.timestamp.hours as usize;
             match valid {
@@ -38,33 +39,23 @@ pub fn hour_of(fix: MaybeFix) -> usize
 fn same_time(a: Time, b: Time) -> bool
     ensures { result ≡ same_time_of a b }
 {
-    if a.hours != b.hours {
-        return false;
-    }
-    if a.minutes != b.minutes {
-        return false;
-    }
-    a.seconds == b.seconds
+    a.hours == b.hours && a.minutes == b.minutes && a.seconds == b.seconds
 }
 
 // A fix, marked A or V, if it has that time.
-pub fn with_time(fix: MaybeFix, time: Time) -> MaybeFix
+#[tactic(auto, unfolding(crate::specs::Fix::with_time_of, text::specs::Res::pick))]
+pub fn with_time(fix: Option<BRecord>, time: Time) -> Option<BRecord>
     ensures { result ≡ with_time_of time fix }
 {
     match fix {
-        MaybeFix::Missing => MaybeFix::Missing,
-        MaybeFix::Fix(seen) => {
-            let own = seen.timestamp;
-            if same_time(own, time) {
-                return MaybeFix::Fix(seen);
-            }
-            MaybeFix::Missing
-        }
+        Some(seen) if same_time(seen.timestamp, time) => Some(seen),
+        _ => None,
     }
 }
 
 impl Moment {
     // The number that the paper gives it.
+    #[tactic(auto, unfolding(crate::specs::Fix::moment_number))]
     pub fn number(self) -> u8
         ensures { result ≡ moment_number self }
     {

@@ -7,7 +7,7 @@ ghost use Rattle.time.specs.Time.{read_time_of};
 ghost use Rattle.moment.specs.Moment.{by_index};
 ghost use Rattle.moment_text.specs.Answers.{is_asked_of, heights_text, found_text, moment_line, moments_text};
 
-use b_record::BRecord;
+use b_record::{BRecord, Height};
 use field::all_digits;
 use hours::Index;
 use moment::{answer, index_of};
@@ -20,22 +20,17 @@ use time::Time;
 pub fn is_asked(word: &[u8]) -> bool
     ensures { result ≡ is_asked_of word.now }
 {
-    if word.len() != 6 {
-        return false;
-    }
-    all_digits(word)
+    word.len() == 6 && all_digits(word)
 }
 
 // The heights of a fix, the pressure height first.
 fn put_heights(buf: &mut [u8], at: usize, fix: BRecord) -> usize
     ensures { Wrote buf.old at (heights_text fix) buf.new result }
 {
-    let pressure = fix.pressure_alt;
-    let gps = fix.gps_alt;
     let at_pressure = put_byte(buf, at, b' ');
-    let next = pressure.put(buf, at_pressure, 5);
+    let next = fix.pressure_alt.put(buf, at_pressure, 5);
     let at_gps = put_byte(buf, next, b' ');
-    gps.put(buf, at_gps, 5)
+    fix.gps_alt.put(buf, at_gps, 5)
 }
 
 // What stands behind the answer's number.
@@ -80,12 +75,10 @@ pub fn put_moments(buf: &mut [u8], at: usize, log: &[u8], words: &[u8]) -> usize
     let index = index_of(log);
     let count = words.len() / 6;
     let mut end = at;
-    let mut i = 0;
-    while i < count {
+    for i in 0..count {
         let from = 6 * i;
         let to = from + 6;
         end = put_answer(buf, end, index, log, &words[from..to]);
-        i += 1;
     }
     end
 }

@@ -7,15 +7,16 @@ ghost use Rattle.put.specs.Put.{Wrote};
 ghost use Rattle.files.specs.Input.{Within};
 ghost use Rattle.moments.specs.Answers.{was_read_of, answers_of};
 
-use files::input::{Filled, is_dash, open, read_on};
-use files::outcome::{Outcome, write_text};
+use files::input::{Filled, NotRead, is_dash, open, read_on};
+use files::outcome::{Failure, write_text};
 use files::output::write_all;
 use files::say::{fail, refuse, tell};
 use files::system::{Sink, Source, System, buffer};
 use moment_text::{is_asked, put_moments};
 use put::put_bytes;
 
-// A log of at most 4 MiB, and one byte more, by which a longer one shows.
+// A log of at most 4 MiB, and one byte more, by which a longer one shows. The rooms here are fixed, since there is no
+// heap.
 fn log_buffer() -> [u8; 4194305]
     ensures { 4194305 ≡ length result }
 {
@@ -39,11 +40,10 @@ fn text_buffer() -> [u8; 262144]
 // The time that argument i is, behind those before it; where it is none a sentence says so.
 fn read_time(sys: &System, i: usize, times: &mut [u8], at: usize) -> bool {
     let mut word = buffer();
-    let n = sys.arg(i, &mut word);
-    if sys.errno() != 0 {
+    let Ok(n) = sys.arg(i, &mut word) else {
         refuse(sys, b"a word", b"not a time of six digits, as 101530");
         return false;
-    }
+    };
     if !is_asked(&word[0..n]) {
         refuse(sys, &word[0..n], b"not a time of six digits, as 101530");
         return false;
@@ -56,36 +56,33 @@ fn read_time(sys: &System, i: usize, times: &mut [u8], at: usize) -> bool {
 fn read_times(sys: &System, first: usize, count: usize, times: &mut [u8]) -> bool
     requires { (first + count ≤ largest) × (count ≤ 4096) }
 {
-    let mut i = 0;
-    while i < count {
+    for i in 0..count {
         if !read_time(sys, first + i, times, 6 * i) {
             return false;
         }
-        i += 1;
     }
     true
 }
 
 // The answers of a log that was read to its end; of any other there are none.
-fn put_answers(filled: Filled, log: &[u8], times: &[u8], text: &mut [u8]) -> usize
+fn put_answers(filled: Result<Filled, NotRead>, log: &[u8], times: &[u8], text: &mut [u8]) -> usize
     requires { Within filled log.now }
     ensures { Wrote text.old 0 (answers_of filled log.now times.now)
         text.new result }
 {
     match filled {
-        Filled::Ended(n) => put_moments(text, 0, &log[0..n], times),
-        Filled::Full => 0,
-        Filled::Failed => 0,
+        Ok(Filled::Ended(n)) => put_moments(text, 0, &log[0..n], times),
+        Ok(Filled::Full) | Err(_) => 0,
     }
 }
 
 // The log was read to its end; where it was not, a sentence says why it has no answers.
-fn was_read(sys: &System, filled: Filled, file: &[u8]) -> bool
+fn was_read(sys: &System, filled: Result<Filled, NotRead>, file: &[u8]) -> bool
     ensures { result ≡ was_read_of filled }
 {
     match filled {
-        Filled::Ended(_) => true,
-        Filled::Full => {
+        Ok(Filled::Ended(_)) => true,
+        Ok(Filled::Full) => {
             refuse(
                 sys,
                 file,
@@ -93,8 +90,8 @@ fn was_read(sys: &System, filled: Filled, file: &[u8]) -> bool
             );
             false
         }
-        Filled::Failed => {
-            tell(sys, Sink::Nowhere, file, Outcome::NotRead);
+        Err(_) => {
+            tell(sys, Sink::Nowhere, file, Err(Failure::NotRead));
             false // an error is not the log's end
         }
     }
@@ -137,7 +134,7 @@ fn answer_file(sys: &System, file: &[u8], times: &[u8], told: Sink) {
 pub fn run_moment(sys: &System, at: usize, told: Sink) {
     let words = sys.arg_count();
     if words <= at {
-        write_all(
+        let _ = write_all(
             sys,
             Sink::Errors,
             b"tokelivo: moment takes a file and times of six digits, as 101530\n",
@@ -145,7 +142,7 @@ pub fn run_moment(sys: &System, at: usize, told: Sink) {
         return;
     }
     if words - at < 2 {
-        write_all(
+        let _ = write_all(
             sys,
             Sink::Errors,
             b"tokelivo: no time is asked for; one is six digits, as 101530\n",
@@ -154,7 +151,7 @@ pub fn run_moment(sys: &System, at: usize, told: Sink) {
     }
     let count = words - at - 1;
     if count > 4096 {
-        write_all(sys, Sink::Errors, b"tokelivo: more than 4096 times\n");
+        let _ = write_all(sys, Sink::Errors, b"tokelivo: more than 4096 times\n");
         return;
     }
     let mut times = time_buffer();
@@ -162,10 +159,9 @@ pub fn run_moment(sys: &System, at: usize, told: Sink) {
         return;
     }
     let mut file = buffer();
-    let n = sys.arg(at, &mut file);
-    if sys.errno() != 0 {
+    let Ok(n) = sys.arg(at, &mut file) else {
         fail(sys, b"the file's name", b"cannot be taken");
         return;
-    }
+    };
     answer_file(sys, &file[0..n], &times[0..6 * count], told);
 }

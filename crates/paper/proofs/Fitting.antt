@@ -3,7 +3,6 @@ use Rattle.text.specs.Prelude.{ℕ, ◌≤◌, ◌≡◌, List, ◌++◌, length
 use Rattle.text.proofs.Prelude.{arith, refl, sym, ap, subst, length-append, take_at, yes≤}
 use Rattle.text.specs.declared.refusal.Refusal.{Refusal}
 use Rattle.print.specs.Print.{answer_to, left_by, Prints}
-use Rattle.print.specs.declared.printed.Printed.TheVariants.{Written, Refused}
 
 abbrev length_of : Res ℕ → ℕ
 length_of (ok n) = n
@@ -15,7 +14,7 @@ Accepted (no r) = ⊥
 
 module _ {t b b' : List ℕ} (fits : length t ≤ length b) where
   -- of the lent bytes, the first are the text
-  pub all_written : {n : ℕ} → Prints (ok t) b b' (Written n) → (n ≤ length b') × (take n b' ≡ t)
+  pub all_written : {n : ℕ} → Prints (ok t) b b' (ok n) → (n ≤ length b') × (take n b' ≡ t)
   unfolding answer_to left_by bind guard pick
   all_written {n} p =
       let e : ok n ≡ ok (length t) = rw (yes≤ fits) at p.answer in
@@ -25,6 +24,6 @@ module _ {t b b' : List ℕ} (fits : length t ≤ length b) where
       rw (c, m) (omega (arith, l), take_at t (drop (length t) b) (length t) refl)
 
   -- and it is not refused
-  pub not_refused : {n : Refusal} → Prints (ok t) b b' (Refused n) → ⊥
+  pub not_refused : {n : Refusal} → Prints (ok t) b b' (no n) → ⊥
   unfolding answer_to bind guard
   not_refused {n} p = let e : no n ≡ ok (length t) = rw (yes≤ fits) at p.answer in subst Accepted (sym e) tt

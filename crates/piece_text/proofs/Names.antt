@@ -1,12 +1,11 @@
 -- The names asked for: how many they are, and each of them.
-use Rattle.text.specs.Prelude.{ℕ, zero, suc, ◌+◌, ◌*◌, ◌/◌, ◌≤◌, ◌<◌, min, ◌≡◌, Bool, true, false, List, [], ◌∷◌}
-use Rattle.text.specs.Prelude.{length, drop, get_or, pick}
+use Rattle.text.specs.Prelude.{ℕ, zero, suc, ◌+◌, ◌*◌, ◌/◌, ◌≤◌, ◌<◌, min, ◌≡◌, List, [], ◌∷◌}
+use Rattle.text.specs.Prelude.{length, drop, get_or}
 use Rattle.text.proofs.Prelude.{arith, refl, ap, ◌∙◌, length-take, drop-cons, get_or-take, first, second, yes≤, no≤}
 use native.Mathlib.Nat.{suc-add}
 use Rattle.table.specs.Table.{empty, defs_of}
 use Rattle.extension.specs.declared.Extension.{Extension}
 use Rattle.table.specs.declared.Table.{Table}
-use Rattle.held.specs.Held.{is_set}
 use Rattle.held.specs.declared.Held.{Held}
 use Rattle.piece_text.specs.Value.{names_of, table_names, names_in, asked_for}
 
@@ -60,37 +59,19 @@ drop_names l zero = refl
 drop_names [] (suc i) = refl
 drop_names (e ∷ l) (suc i) = drop_names l i
 
-module _ (h : Held) where
-  -- no table, no names
-  pub no_names : is_set h.slot ≡ false → length (table_names h) ≡ 0
-  unfolding table_names pick
-  no_names none = rw none
-
-  in_force_lem : is_set h.slot ≡ true → table_names h ≡ names_of (defs_of h.table)
-  unfolding table_names pick
-  in_force_lem set = rw set
-
+module _ (t : Table) where
   -- one for each definition
-  pub count_names : is_set h.slot ≡ true → length (table_names h) ≡ length (defs_of h.table)
-  count_names set = ap length (in_force_lem set) ∙ length_names (defs_of h.table)
+  pub count_names : length (table_names (Held.Set t)) ≡ length (defs_of t)
+  unfolding table_names
+  count_names = length_names (defs_of t)
 
-  module _ (i : ℕ) (more : i < length (table_names h)) where
-    -- where there is a name, there is a table
-    set : is_set h.slot ≡ true
-    set = by (is_set h.slot) refl
-      where
-        by : (b : Bool) → is_set h.slot ≡ b → is_set h.slot ≡ true
-        by true e = e
-        by false e = absurd (omega (arith, no_names e))
-
-    -- and a definition
-    pub has : i < length (defs_of h.table)
-    has = omega (arith, count_names set)
-
-    -- the i-th is that of the i-th definition
-    pub named : drop i (table_names h) ≡ (get_or h.table.defs i empty).mnemonic ∷ drop (suc i) (table_names h)
-    unfolding names_of
-    named = rw (in_force_lem set, drop_names, drop_names, definition_at h.table i has)
+  -- the i-th is that of the i-th definition
+  pub named : (i : ℕ) → i < length (table_names (Held.Set t)) →
+      drop i (table_names (Held.Set t)) ≡ (get_or t.defs i empty).mnemonic ∷ drop (suc i) (table_names (Held.Set t))
+  unfolding table_names names_of
+  named i more =
+      let k : i < length (defs_of t) = omega (arith, length_names (defs_of t)) in
+      rw (drop_names, drop_names, definition_at t i k)
 
 -- ---- the names asked for
 

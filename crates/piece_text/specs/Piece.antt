@@ -1,17 +1,17 @@
 -- Fields in plain decimal, each behind the one space that parts it from the field before.
+use Rattle.field.specs.declared.Mnemonic.{Mnemonic}
+use Rattle.text.specs.Prelude.{None, Option, Some}
 use Rattle.std.specs.Prelude.{◌∷◌, ◌++◌}
 use Rattle.text.specs.Prelude.{ℕ, code, List, [], padded}
-use Rattle.part.specs.declared.{Part.Part, MaybePart.MaybePart}
+use Rattle.part.specs.declared.{Part.Part}
 use Rattle.field.specs.Field.{mnemonic_text}
 use Rattle.time.specs.declared.Time.{Time}
 use Rattle.date.specs.declared.Date.{Date}
 use Rattle.raw_coord.specs.Coord.{compass_letter}
 use Rattle.raw_coord.specs.declared.RawCoord.{RawCoord}
 use Rattle.position.specs.declared.RawPosition.{RawPosition}
-use Rattle.manufacturer.specs.declared.{MaybeLetter.MaybeLetter, MaybeTriple.MaybeTriple}
 use Rattle.b_record.specs.BRecord.{pressure_text, gps_text}
-use Rattle.b_record.specs.declared.{PressureAlt.PressureAlt, GpsAlt.GpsAlt}
-use Rattle.c_record.specs.declared.MaybeDate.{MaybeDate}
+use Rattle.b_record.specs.declared.{height.PressureAlt.PressureAlt, height.GpsAlt.GpsAlt}
 
 -- A number in plain decimal.
 unfoldable pub number_shown : ℕ → List ℕ
@@ -38,9 +38,9 @@ unfoldable pub part_shown : Part → List ℕ
 part_shown p = (code " " ∷ []) ++ place_text p
 
 -- `-` for none.
-unfoldable pub maybe_shown : MaybePart → List ℕ
-maybe_shown MaybePart.Missing = byte_shown (code "-")
-maybe_shown (MaybePart.At p) = part_shown p
+unfoldable pub maybe_shown : Option Part → List ℕ
+maybe_shown None = byte_shown (code "-")
+maybe_shown (Some p) = part_shown p
 
 -- Numbers parted by a mark.
 unfoldable pub two_marked : ℕ → ℕ → ℕ → List ℕ
@@ -59,9 +59,9 @@ unfoldable pub date_shown : Date → List ℕ
 date_shown d = three_shown (code "/") d.day d.month d.year
 
 -- A flight date, `-` for none.
-unfoldable pub flight_shown : MaybeDate → List ℕ
-flight_shown MaybeDate.Missing = byte_shown (code "-")
-flight_shown (MaybeDate.On d) = date_shown d
+unfoldable pub flight_shown : Option Date → List ℕ
+flight_shown None = byte_shown (code "-")
+flight_shown (Some d) = date_shown d
 
 -- Degrees, thousandths and letter.
 unfoldable pub coord_shown : RawCoord → List ℕ
@@ -73,11 +73,11 @@ unfoldable pub position_shown : RawPosition → List ℕ
 position_shown p = coord_shown p.lat.0 ++ coord_shown p.lon.0
 
 -- A maker's codes as they are.
-unfoldable pub letter_shown : MaybeLetter → List ℕ
-letter_shown MaybeLetter.Missing = byte_shown (code "-")
-letter_shown (MaybeLetter.Letter b) = byte_shown b
+unfoldable pub letter_shown : Option ℕ → List ℕ
+letter_shown None = byte_shown (code "-")
+letter_shown (Some b) = byte_shown b
 
 -- A maker's triple, `-` for none.
-unfoldable pub triple_shown : MaybeTriple → List ℕ
-triple_shown MaybeTriple.Missing = byte_shown (code "-")
-triple_shown (MaybeTriple.Triple t) = (code " " ∷ []) ++ mnemonic_text t
+unfoldable pub triple_shown : Option Mnemonic → List ℕ
+triple_shown None = byte_shown (code "-")
+triple_shown (Some t) = (code " " ∷ []) ++ mnemonic_text t

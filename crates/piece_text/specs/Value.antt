@@ -6,7 +6,7 @@ use Rattle.field.specs.Field.{mnemonic_text}
 use Rattle.field.specs.declared.Mnemonic.{Mnemonic}
 use Rattle.table.specs.Table.{defs_of}
 use Rattle.extension.specs.declared.Extension.{Extension}
-use Rattle.held.specs.Held.{is_set, look_up}
+use Rattle.held.specs.Held.{look_up}
 use Rattle.held.specs.declared.Held.{Held}
 use Rattle.piece_text.specs.Piece.{place_text}
 
@@ -27,7 +27,9 @@ names_of (e ∷ es) = e.mnemonic ∷ names_of es
 
 -- The names of the table in force.
 unfoldable pub table_names : Held → List Mnemonic
-table_names h = pick (is_set h.slot) (names_of (defs_of h.table)) []
+table_names Held.Never = []
+table_names Held.Spoiled = []
+table_names (Held.Set t) = names_of (defs_of t)
 
 -- Names of three bytes each; what is left over is no name.
 unfoldable pub names_in : List ℕ → List Mnemonic

@@ -5,10 +5,9 @@ ghost use Rattle.piece_text.specs.Piece.{three_shown, time_shown, date_shown, fl
 ghost use Rattle.piece_text.specs.Piece.{position_shown};
 ghost use Rattle.piece_text.specs.Piece.{letter_shown, triple_shown};
 
-use c_record::MaybeDate;
 use date::Date;
-use manufacturer::{MaybeLetter, MaybeTriple};
-use part::{MaybePart, Part};
+use field::Mnemonic;
+use part::Part;
 use position::RawPosition;
 use print::number::put_nat;
 use put::put_byte;
@@ -24,6 +23,7 @@ pub fn show_number(buf: &mut [u8], at: usize, n: u64) -> usize
 }
 
 // A byte as it is.
+#[tactic(auto, using(put::proofs::Writing::then), unfolding(crate::specs::Piece::byte_shown))]
 pub fn show_byte(buf: &mut [u8], at: usize, b: u8) -> usize
     ensures { Wrote buf.old at (byte_shown b) buf.new result }
 {
@@ -49,12 +49,13 @@ pub fn show_part(buf: &mut [u8], at: usize, p: Part) -> usize
 }
 
 // The same, or a dash.
-pub fn show_maybe(buf: &mut [u8], at: usize, p: MaybePart) -> usize
+#[tactic(auto, unfolding(crate::specs::Piece::maybe_shown))]
+pub fn show_maybe(buf: &mut [u8], at: usize, p: Option<Part>) -> usize
     ensures { Wrote buf.old at (maybe_shown p) buf.new result }
 {
     match p {
-        MaybePart::Missing => show_byte(buf, at, b'-'),
-        MaybePart::At(part) => show_part(buf, at, part),
+        None => show_byte(buf, at, b'-'),
+        Some(part) => show_part(buf, at, part),
     }
 }
 
@@ -76,6 +77,7 @@ fn show_three(buf: &mut [u8], at: usize, mark: u8, a: u8, b: u8, c: u8) -> usize
 }
 
 // H:M:S.
+#[tactic(auto, unfolding(crate::specs::Piece::time_shown))]
 pub fn show_time(buf: &mut [u8], at: usize, t: Time) -> usize
     ensures { Wrote buf.old at (time_shown t) buf.new result }
 {
@@ -83,6 +85,7 @@ pub fn show_time(buf: &mut [u8], at: usize, t: Time) -> usize
 }
 
 // D/M/Y.
+#[tactic(auto, unfolding(crate::specs::Piece::date_shown))]
 pub fn show_date(buf: &mut [u8], at: usize, d: Date) -> usize
     ensures { Wrote buf.old at (date_shown d) buf.new result }
 {
@@ -90,12 +93,13 @@ pub fn show_date(buf: &mut [u8], at: usize, d: Date) -> usize
 }
 
 // A flight date, or a dash.
-pub fn show_flight(buf: &mut [u8], at: usize, flight: MaybeDate) -> usize
+#[tactic(auto, unfolding(crate::specs::Piece::flight_shown))]
+pub fn show_flight(buf: &mut [u8], at: usize, flight: Option<Date>) -> usize
     ensures { Wrote buf.old at (flight_shown flight) buf.new result }
 {
     match flight {
-        MaybeDate::Missing => show_byte(buf, at, b'-'),
-        MaybeDate::On(date) => show_date(buf, at, date),
+        None => show_byte(buf, at, b'-'),
+        Some(date) => show_date(buf, at, date),
     }
 }
 
@@ -103,39 +107,38 @@ pub fn show_flight(buf: &mut [u8], at: usize, flight: MaybeDate) -> usize
 fn show_coord(buf: &mut [u8], at: usize, c: RawCoord) -> usize
     ensures { Wrote buf.old at (coord_shown c) buf.new result }
 {
-    let sign = c.sign;
     let at_thousandths = show_number(buf, at, c.degrees as u64);
     let at_letter = show_number(buf, at_thousandths, c.minute_thousandths as u64);
-    show_byte(buf, at_letter, sign.letter())
+    show_byte(buf, at_letter, c.sign.letter())
 }
 
 // Latitude, then longitude.
 pub fn show_position(buf: &mut [u8], at: usize, pos: RawPosition) -> usize
     ensures { Wrote buf.old at (position_shown pos) buf.new result }
 {
-    let lat = pos.lat.0;
-    let lon = pos.lon.0;
-    let next = show_coord(buf, at, lat);
-    show_coord(buf, next, lon)
+    let next = show_coord(buf, at, pos.lat.0);
+    show_coord(buf, next, pos.lon.0)
 }
 
 // A maker's letter as it is, or `-`.
-pub fn show_letter(buf: &mut [u8], at: usize, code: MaybeLetter) -> usize
+#[tactic(auto, unfolding(crate::specs::Piece::letter_shown))]
+pub fn show_letter(buf: &mut [u8], at: usize, code: Option<u8>) -> usize
     ensures { Wrote buf.old at (letter_shown code) buf.new result }
 {
     match code {
-        MaybeLetter::Missing => show_byte(buf, at, b'-'),
-        MaybeLetter::Letter(letter) => show_byte(buf, at, letter),
+        None => show_byte(buf, at, b'-'),
+        Some(letter) => show_byte(buf, at, letter),
     }
 }
 
 // A maker's triple as it is, or `-`.
-pub fn show_triple(buf: &mut [u8], at: usize, code: MaybeTriple) -> usize
+#[tactic(auto, unfolding(crate::specs::Piece::triple_shown))]
+pub fn show_triple(buf: &mut [u8], at: usize, code: Option<Mnemonic>) -> usize
     ensures { Wrote buf.old at (triple_shown code) buf.new result }
 {
     match code {
-        MaybeTriple::Missing => show_byte(buf, at, b'-'),
-        MaybeTriple::Triple(triple) => {
+        None => show_byte(buf, at, b'-'),
+        Some(triple) => {
             let next = put_byte(buf, at, b' ');
             triple.put(buf, next)
         }

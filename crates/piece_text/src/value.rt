@@ -1,6 +1,5 @@
 // Values of extensions, looked up by name.
 ghost use Rattle.std.specs.Prelude.{◌≡◌, ◌<◌, suc, ◌∷◌, length, drop};
-ghost use Rattle.part.specs.Part.{found_res};
 ghost use Rattle.put.specs.Put.{Wrote};
 ghost use Rattle.table.specs.Table.{defs_of};
 ghost use Rattle.igc_log.specs.Fold.{texts};
@@ -8,23 +7,25 @@ ghost use Rattle.piece_text.specs.Value.{found_text, value_shown, table_names, a
 
 use crate::piece::put_place;
 use field::Mnemonic;
-use held::{Held, Slot};
-use part::{Found, Part};
+use held::Held;
+use part::Part;
 use print::number::put_nat;
 use put::put_byte;
 use table::Table;
+use text::refusal::Refusal;
 
 // 0 with the value's place behind `@`, or the refusal's number.
-fn put_found(buf: &mut [u8], at: usize, found: Found) -> usize
-    ensures { Wrote buf.old at (found_text (found_res found)) buf.new result }
+#[tactic(auto, unfolding(crate::specs::Value::found_text))]
+fn put_found(buf: &mut [u8], at: usize, found: Result<Part, Refusal>) -> usize
+    ensures { Wrote buf.old at (found_text found) buf.new result }
 {
     match found {
-        Found::At(value) => {
+        Ok(value) => {
             let at_mark = put_byte(buf, at, b'0');
             let at_place = put_byte(buf, at_mark, b'@');
             put_place(buf, at_place, value)
         }
-        Found::Refused(no) => put_nat(buf, at, no.number() as u64, 1),
+        Err(no) => put_nat(buf, at, no.number() as u64, 1),
     }
 }
 
@@ -62,12 +63,10 @@ pub fn definition_count(table: Table) -> usize
 fn table_count(held: Held) -> usize
     ensures { result ≡ length (table_names held) }
 {
-    let slot = held.slot;
-    let table = held.table;
-    match slot {
-        Slot::Never => 0,
-        Slot::Spoiled => 0,
-        Slot::Set => definition_count(table),
+    match held {
+        Held::Never => 0,
+        Held::Spoiled => 0,
+        Held::Set(table) => definition_count(table),
     }
 }
 
@@ -81,15 +80,17 @@ fn asked_count(held: Held, names: &[u8]) -> usize
     table_count(held)
 }
 
-// The i-th of them.
+// The i-th of them; with no names given there is one of a table in force alone.
 fn asked_at(held: Held, names: &[u8], i: usize) -> Mnemonic
     requires { i < length (asked_for held names.now) }
     ensures { drop i (asked_for held names.now) ≡ result ∷ drop (suc i) (asked_for held names.now) }
 {
     if names.len() < 3 {
-        let table = held.table;
-        let def = table.defs[i];
-        return def.mnemonic;
+        return match held {
+            Held::Never => Mnemonic(0, 0, 0),
+            Held::Spoiled => Mnemonic(0, 0, 0),
+            Held::Set(table) => table.defs[i].mnemonic,
+        };
     }
     let a = 3 * i;
     Mnemonic(names[a], names[a + 1], names[a + 2])
@@ -109,13 +110,11 @@ pub fn show_values(
         at (texts (value_shown base held rest line.now) (asked_for held names.now))
         buf.new result }
 {
-    let n = asked_count(held, names);
     let mut end = at;
-    let mut i = 0;
-    while i < n {
+    let count = asked_count(held, names);
+    for i in 0..count {
         let name = asked_at(held, names, i);
         end = show_value(buf, end, held, base, rest, name, line);
-        i += 1;
     }
     end
 }

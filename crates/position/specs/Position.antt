@@ -1,9 +1,9 @@
 -- A position: latitude first.
 use Rattle.std.specs.Prelude.{◌++◌}
-use Rattle.text.specs.Prelude.{ℕ, Bool, List, Res, ok, no, bind, ◌∧?◌, columns}
+use Rattle.text.specs.Prelude.{ℕ, Bool, List, Res, ok, bind, ◌∧?◌, columns}
 use Rattle.field.specs.Field.{sized, field}
 use Rattle.coord.specs.Coord.{latitude_in, longitude_in, latitude_text, longitude_text, latitude_book, longitude_book}
-use Rattle.position.specs.declared.{RawPosition.RawPosition, PositionRead.PositionRead}
+use Rattle.position.specs.declared.{RawPosition.RawPosition}
 
 -- Latitude, then longitude.
 unfoldable pub read_both : List ℕ → Res RawPosition
@@ -27,9 +27,3 @@ position_text p = latitude_text p.lat ++ longitude_text p.lon
 -- By the book: both coordinates are.
 unfoldable pub position_book : RawPosition → Bool
 position_book p = latitude_book p.lat ∧? longitude_book p.lon
-
--- ---- the answers of the code
-
-abbrev pub position_res : PositionRead → Res RawPosition
-position_res (PositionRead.Ok v) = ok v
-position_res (PositionRead.Refused n) = no n

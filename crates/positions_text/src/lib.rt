@@ -2,19 +2,15 @@
 #![tactic(auto)]
 
 ghost use Rattle.put.specs.Put.{Wrote};
-ghost use Rattle.records.specs.Record.{reading_res};
 ghost use Rattle.positions_text.specs.Positions.{coord_shown, latitude_shown, longitude_shown, place_shown};
 ghost use Rattle.positions_text.specs.Positions.{refusal_shown, position_shown, fix_shown, positions_line};
 
 use b_record::BRecord;
-use finer::{
-    FinerCoord, FinerLatitude, FinerLongitude, FinerPosition, FinerPositionRead, FinerRefusal,
-};
+use finer::{FinerCoord, FinerLatitude, FinerLongitude, FinerPosition, FinerRefusal};
 use held::tables::Tables;
 use print::number::{put_int, put_nat};
 use put::put_byte;
-use records::{MaybeFix, Reading};
-use text::refusal::MaybePlace;
+use records::{Reading, fix_in};
 
 // The number and its n, each behind a space.
 fn put_coord(buf: &mut [u8], at: usize, coord: FinerCoord) -> usize
@@ -30,28 +26,27 @@ fn put_coord(buf: &mut [u8], at: usize, coord: FinerCoord) -> usize
 fn put_latitude(buf: &mut [u8], at: usize, lat: FinerLatitude) -> usize
     ensures { Wrote buf.old at (latitude_shown lat) buf.new result }
 {
-    let coord = lat.0;
-    put_coord(buf, at, coord)
+    put_coord(buf, at, lat.0)
 }
 
 // The one place where the number of a longitude comes out.
 fn put_longitude(buf: &mut [u8], at: usize, lon: FinerLongitude) -> usize
     ensures { Wrote buf.old at (longitude_shown lon) buf.new result }
 {
-    let coord = lon.0;
-    put_coord(buf, at, coord)
+    put_coord(buf, at, lon.0)
 }
 
 // `@` and the place of the byte to look at.
-fn put_place(buf: &mut [u8], at: usize, place: MaybePlace) -> usize
+#[tactic(auto, using(put::proofs::Writing::wrote_nothing), unfolding(crate::specs::Positions::place_shown, text::specs::Res::placed))]
+fn put_place(buf: &mut [u8], at: usize, place: Option<usize>) -> usize
     ensures { Wrote buf.old at (place_shown place) buf.new result }
 {
     match place {
-        MaybePlace::At(k) => {
+        Some(k) => {
             let at_place = put_byte(buf, at, b'@');
             put_nat(buf, at_place, k as u64, 1)
         }
-        MaybePlace::Missing => at,
+        None => at,
     }
 }
 
@@ -65,17 +60,15 @@ fn put_refusal(buf: &mut [u8], at: usize, no: FinerRefusal) -> usize
 }
 
 // Latitude and then longitude, or the refusal.
-fn put_position(buf: &mut [u8], at: usize, read: FinerPositionRead) -> usize
+fn put_position(buf: &mut [u8], at: usize, read: Result<FinerPosition, FinerRefusal>) -> usize
     ensures { Wrote buf.old at (position_shown read) buf.new result }
 {
     match read {
-        FinerPositionRead::Ok(position) => {
-            let lat = position.lat;
-            let lon = position.lon;
-            let at_lon = put_latitude(buf, at, lat);
-            put_longitude(buf, at_lon, lon)
+        Ok(position) => {
+            let at_lon = put_latitude(buf, at, position.lat);
+            put_longitude(buf, at_lon, position.lon)
         }
-        FinerPositionRead::Refused(no) => put_refusal(buf, at, no),
+        Err(no) => put_refusal(buf, at, no),
     }
 }
 
@@ -90,6 +83,7 @@ fn put_fix(buf: &mut [u8], at: usize, number: u64, line: &[u8], held: Tables, fi
 }
 
 // The line with this number, as it was read, at which `held` is in force: nothing where it is no accepted fix.
+#[tactic(auto, using(put::proofs::Writing::wrote_nothing), unfolding(crate::specs::Positions::positions_line, crate::specs::Positions::maybe_shown))]
 pub fn put_line(
     buf: &mut [u8],
     at: usize,
@@ -98,11 +92,10 @@ pub fn put_line(
     reading: Reading,
     held: Tables,
 ) -> usize
-    ensures { Wrote buf.old at (positions_line number line.now (reading_res reading) held)
-        buf.new result }
+    ensures { Wrote buf.old at (positions_line number line.now reading held) buf.new result }
 {
-    match reading.fix() {
-        MaybeFix::Fix(fix) => put_fix(buf, at, number, line, held, fix),
-        MaybeFix::Missing => at,
+    match fix_in(reading) {
+        Some(fix) => put_fix(buf, at, number, line, held, fix),
+        None => at,
     }
 }

@@ -2,8 +2,6 @@
 use Rattle.std.specs.Prelude.{◌≡◌, ◌++◌}
 use Rattle.text.specs.Prelude.{ℕ, List, length, drop, Res, ok, no, bind, guard, pick, ◌≤?◌}
 use Rattle.text.specs.declared.refusal.Refusal.TheVariants.{NoRoom}
-use Rattle.print.specs.declared.printed.Printed.{Printed}
-use Rattle.print.specs.declared.printed.Printed.TheVariants.{Written, Refused}
 
 -- The length written: the text's own refusal first, then 10 exactly where the text is longer than the bytes lent.
 unfoldable pub answer_to : Res (List ℕ) → List ℕ → Res ℕ
@@ -16,11 +14,7 @@ left_by (no n) b = b
 
 -- ---- the answers of the code
 
-abbrev pub printed_res : Printed → Res ℕ
-printed_res (Written n) = ok n
-printed_res (Refused n) = no n
-
 -- A printer of m answers r and leaves b' where b was lent.
-pub record Prints (m : Res (List ℕ)) (b b' : List ℕ) (r : Printed) : Type 0 where
-  pub answer : printed_res r ≡ answer_to m b
+pub record Prints (m : Res (List ℕ)) (b b' : List ℕ) (r : (Res ℕ)) : Type 0 where
+  pub answer : r ≡ answer_to m b
   pub left : b' ≡ left_by m b

@@ -1,5 +1,5 @@
 // Numbers put into lent bytes, padded with zeros.
-ghost use Rattle.std.specs.Prelude.{◌≡◌, ◌-◌, replicate};
+ghost use Rattle.std.specs.Prelude.{◌≡◌, replicate};
 ghost use Rattle.text.specs.Number.{digits, places_of, padded, signed};
 ghost use Rattle.put.specs.Put.{Wrote};
 ghost use Rattle.print.specs.Signed.{split_of};
@@ -11,13 +11,11 @@ fn put_zeros(buf: &mut [u8], at: usize, k: usize) -> usize
     ensures { Wrote buf.old at (replicate k 48) buf.new result }
 {
     let mut next = at;
-    let mut j = 0;
-    while j < k {
+    for j in 0..k {
         if buf.len() <= next {
             return after(next, k - j);
         }
         next = put_byte(buf, next, b'0');
-        j += 1;
     }
     next
 }
@@ -42,20 +40,12 @@ fn put_digits(buf: &mut [u8], at: usize, n: u64, k: usize) -> usize
     if buf.len() <= at {
         return after(at, k);
     }
-    let mut i = k;
     let mut rest = n;
-    while i > 0 {
-        i -= 1;
-        put_byte(buf, after(at, i), 48 + (rest % 10) as u8);
+    for i in (0..k).rev() {
+        put_byte(buf, after(at, i), b'0' + (rest % 10) as u8);
         rest /= 10;
     }
     after(at, k)
-}
-
-fn less(a: usize, b: usize) -> usize
-    ensures { result ≡ a - b }
-{
-    if a < b { 0 } else { a - b }
 }
 
 // A number from 0 up, padded with zeros to the width.
@@ -63,12 +53,12 @@ pub fn put_nat(buf: &mut [u8], at: usize, n: u64, width: usize) -> usize
     ensures { Wrote buf.old at (padded width n) buf.new result }
 {
     let k = places(n);
-    let next = put_zeros(buf, at, less(width, k));
+    let next = put_zeros(buf, at, width.saturating_sub(k));
     put_digits(buf, next, n, k)
 }
 
 // A signed number by its sign and its distance from 0.
-#[derive(Clone, Copy)]
+#[derive(Clone, Copy, PartialEq, Eq, Debug)]
 enum Signed {
     Plus(u64),
     Minus(u64),
@@ -92,7 +82,7 @@ pub fn put_int(buf: &mut [u8], at: usize, z: i64, width: usize) -> usize
         Signed::Plus(n) => put_nat(buf, at, n, width),
         Signed::Minus(n) => {
             let next = put_byte(buf, at, b'-');
-            put_nat(buf, next, n, less(width, 1))
+            put_nat(buf, next, n, width.saturating_sub(1))
         }
     }
 }

@@ -1,11 +1,10 @@
 -- The loop that takes the lines of a piece, as far as there is room for their text.
 use Rattle.text.specs.Prelude.{ℕ, ◌+◌, ◌≤◌, ◌<◌, ◌≡◌, Bool, true, false, List, ◌++◌, length, take}
 use Rattle.text.specs.Prelude.{largest}
-use Rattle.text.proofs.Prelude.{arith, refl, sym, ap, ◌∙◌, append-nil, sets, yes≤, is≤, both, and}
+use Rattle.text.proofs.Prelude.{arith, refl, ap, ◌∙◌, append-nil, sets, yes≤, is≤, both, and}
 use Rattle.part.specs.Part.{part_bytes, bytes_of}
 use Rattle.put.specs.Put.{Wrote}
 use Rattle.put.proofs.Writing.{wrote_length, wrote_nothing, then}
-use Rattle.records.specs.Record.{reading_res}
 use Rattle.igc_log.specs.Line.{cut_at}
 use Rattle.igc_log.specs.Log.{chunks}
 use Rattle.igc_log.specs.Fold as fold
@@ -123,7 +122,7 @@ module _ {p : Product} {names : List ℕ} {c : Carried} {s b₀ : List ℕ} wher
 
     module _ {g : Got} {l b' : List ℕ} {h' : Tables} {to : ℕ} (i : at < length s) (e : g ≡ got_at at s)
         (v : l ≡ part_bytes g.line s) (k : h' ≡ reader.after (placed c at) h l)
-        (u : Wrote b end (product_line p names (n + 1) l (reading_res g.reading) h') b' to) where
+        (u : Wrote b end (product_line p names (n + 1) l g.reading h') b' to) where
       -- The text of the line, as that of its reading.
       abbrev text : List ℕ
       text =
@@ -140,7 +139,7 @@ module _ {p : Product} {names : List ℕ} {c : Carried} {s b₀ : List ℕ} wher
       text_here = let cut = cut_here i f.reached e in rw (cut.0, cut.1)
 
       -- A line whose text has room.
-      pub line : {t' : Trailer} → t' ≡ tallied t (placed c at) l (reading_res g.reading) → to ≤ length b' →
+      pub line : {t' : Trailer} → t' ≡ tallied t (placed c at) l g.reading → to ≤ length b' →
           Feeding p names c s b₀ b' h' (n + 1) t' g.next to
       unfolding count_step
       line m r =

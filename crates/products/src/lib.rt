@@ -4,17 +4,17 @@
 
 ghost use Rattle.std.specs.Prelude.{◌≡◌, true, length};
 ghost use Rattle.put.specs.Put.{Wrote};
-ghost use Rattle.records.specs.Record.{reading_res};
 ghost use Rattle.products.specs.Product.{product_line, closing};
 ghost use Rattle.products.specs.Feed.{at_first_of, is_ready_of, FedOf, Feeds};
 
 use cursor::Cursor;
 use held::tables::Tables;
+use part::InLine;
 use records::Reading;
 use trailer_text::Trailer;
 use walk::turn::read_at;
 
-// What is asked of a log.
+// What is asked of a log. An enum and no generic: callers hand it on as a value, and a closure may not be handed out.
 #[derive(Clone, Copy)]
 pub enum Product {
     Listing,
@@ -40,6 +40,7 @@ pub struct Fed {
 }
 
 // A line with this number, as it was read: what `held` has in force at it, and the names asked for.
+#[tactic(auto, unfolding(crate::specs::Product::product_line))]
 fn put_line(
     buf: &mut [u8],
     at: usize,
@@ -50,9 +51,7 @@ fn put_line(
     held: Tables,
     names: &[u8],
 ) -> usize
-    ensures { Wrote buf.old at
-        (product_line product names.now number line.now (reading_res reading) held)
-        buf.new result }
+    ensures { Wrote buf.old at (product_line product names.now number line.now reading held) buf.new result }
 {
     match product {
         Product::Listing => listing_text::put_line(buf, at, number, line, reading),
@@ -72,13 +71,21 @@ fn put_ready(product: Product, c: Carried, lines: &[u8], names: &[u8], buf: &mut
     let mut trailer = c.trailer;
     let mut taken = 0;
     let mut end = 0;
+    // A turn steps by what it reads.
     while taken < lines.len() {
         let got = read_at(lines, taken);
-        let part = got.line;
-        let reading = got.reading;
-        let line = part.view(lines);
+        let line = got.line.view(lines);
         let after = held.after(line);
-        let to = put_line(buf, end, product, number + 1, line, reading, after, names);
+        let to = put_line(
+            buf,
+            end,
+            product,
+            number + 1,
+            line,
+            got.reading,
+            after,
+            names,
+        );
         if buf.len() < to {
             let at = Cursor {
                 place: base + taken,
@@ -90,7 +97,7 @@ fn put_ready(product: Product, c: Carried, lines: &[u8], names: &[u8], buf: &mut
                 end,
             };
         }
-        trailer = trailer.after(base + taken, line, reading);
+        trailer = trailer.after(base + taken, line, got.reading);
         held = after;
         number = number + 1;
         taken = got.next;
@@ -124,13 +131,15 @@ fn is_ready(c: Carried, n: usize) -> bool
 }
 
 // Before the first piece.
+#[tactic(auto, unfolding(crate::specs::Feed::at_first_of))]
 pub fn new() -> Carried
     ensures { result ≡ at_first_of }
 {
-    let held = Tables::new();
-    let at = Cursor::new();
-    let trailer = Trailer::new();
-    Carried { held, at, trailer }
+    Carried {
+        held: Tables::new(),
+        at: Cursor::new(),
+        trailer: Trailer::new(),
+    }
 }
 
 // The lines that come next: `lines` are the bytes of the log from the place on, or as many of them as are at
@@ -150,13 +159,12 @@ pub fn put_lines(asked: Product, c: Carried, lines: &[u8], names: &[u8], buf: &m
 }
 
 // What closes the text, after the last piece: a listing's trailer.
+#[tactic(auto, using(put::proofs::Writing::wrote_nothing), unfolding(crate::specs::Product::closing))]
 pub fn put_closing(buf: &mut [u8], at: usize, product: Product, c: Carried) -> usize
     ensures { Wrote buf.old at (closing product c.trailer) buf.new result }
 {
-    let trailer = c.trailer;
     match product {
-        Product::Listing => trailer.put(buf, at),
-        Product::Fields => at,
-        Product::Positions => at,
+        Product::Listing => c.trailer.put(buf, at),
+        Product::Fields | Product::Positions => at,
     }
 }

@@ -1,12 +1,11 @@
 -- The caption's bytes are what the plain words say.
-use Rattle.text.specs.Prelude.{ℕ, zero, suc, ◌-◌, ◌≤◌, ◌<◌, ◌≡◌, true, false, List, [], ◌∷◌, map, length, drop, pick}
+use Rattle.text.specs.Prelude.{ℕ, zero, suc, ◌-◌, ◌≤◌, ◌<◌, ◌≡◌, true, false, List, [], map, length, drop, pick}
 use Rattle.text.specs.Prelude.{◌≤?◌, ◌=?◌}
 use Rattle.text.proofs.Prelude.{arith, refl, sym, ap, ◌∙◌, drop_of_length-le, yes=, no=, is≤, isnt≤, by_test}
 use Rattle.part.specs.Part.{bytes_of, find_maybe, maybe_bytes, shown}
 use Rattle.igc_log.specs.Line.{line_text, cut_at}
 use Rattle.igc_log.specs.Log.{chunks}
 use Rattle.igc_log.proofs.Chunks.{chunks_none}
-use Rattle.ahead.specs.Ahead.{Ahead}
 use Rattle.ahead.proofs.Cutting.{ahead}
 use Rattle.caption.specs.Caption.{nowhere, nth, caption_of, caption_text}
 use Rattle.caption.proofs.Lines.{nth_past, nth_here, nth_next, here_inside, inside_shown}

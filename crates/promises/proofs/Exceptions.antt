@@ -15,18 +15,16 @@ use Rattle.position.specs.Position as position
 use Rattle.manufacturer.specs.Maker as maker
 use Rattle.extension.specs.Extension.{read_definition, read_extension, extension_text}
 use Rattle.table.specs.Table.{table_of, read_defs, read_body, is_table_of, read_table, defs_of, defs_text, table_body, table_text}
-use Rattle.table.specs.Table.{table_read}
 use Rattle.a_record.specs.ARecord.{a_new, a_of, letter_form, read_a, triple_text, a_body, a_text}
 use Rattle.b_record.specs.BRecord.{valid_letter, valid_of, read_heights_of, read_fix, read_b, tail_text, b_body, b_text}
 use Rattle.c_record.specs.CRecord.{turns, read_flight_of, read_task_of, read_declaration, flight_text, task_text, declaration_body}
 use Rattle.c_record.specs.CRecord.{declaration_text}
 use Rattle.c_turnpoint_record.specs.CTurnpoint.{read_turnpoint, turnpoint_body, turnpoint_text}
-use Rattle.satellites.specs.Bits.{bit, word}
 use Rattle.satellites.specs.Satellites.{occurs, in_pairs, numbers, read_numbers, words_of, set_of, read_satellites}
 use Rattle.e_record.specs.ERecord.{read_e, e_body, e_text}
 use Rattle.f_record.specs.FRecord.{read_heard, read_f, f_body, f_text}
 use Rattle.k_record.specs.KRecord.{read_timed, read_k, k_body, k_text}
-use Rattle.records.specs.Record.{kind_of, read_c, read_kind, read_line_of, record_table}
+use Rattle.records.specs.Record.{kind_of, read_c, read_kind, read_line_of, record_table, table_left}
 use Rattle.record_print.specs.Printed.{record_text, answer_printed, reprinted}
 use Rattle.text.specs.Spelt.{spelt_from, spelt}
 use Rattle.promises.specs.Back.{Needed}
@@ -40,9 +38,9 @@ unfolding
     columns sized ascii_in ascii field mnemonic_text read_three_of three_text time_of read_time_of time_text date_of read_date
     date_text raw.compass_letter raw.sign_of raw.coord_of raw.lettered raw.read_coord raw.coord_text
     coord.latitude coord.longitude coord.latitude_in coord.longitude_in position.read_both position.read_position
-    position.position_text maker.letter_of_lem maker.triple_spelt maker.triple_of maker.known maker.first_of maker.is_letter
+    position.position_text maker.letter_of_lem maker.triple_of maker.first_of maker.is_letter
     maker.letter_maker read_definition read_extension extension_text table_of read_defs read_body is_table_of read_table defs_of
-    defs_text table_body table_text table_read a_new a_of letter_form read_a triple_text a_body a_text valid_letter valid_of
+    defs_text table_body table_text table_left a_new a_of letter_form read_a triple_text a_body a_text valid_letter valid_of
     read_heights_of read_fix read_b tail_text b_body b_text turns read_flight_of read_task_of read_declaration flight_text task_text
     declaration_body declaration_text read_turnpoint turnpoint_body turnpoint_text
     occurs in_pairs numbers read_numbers words_of set_of read_satellites read_e e_body e_text read_heard read_f f_body f_text

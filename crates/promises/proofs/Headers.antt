@@ -1,12 +1,11 @@
 -- H lines always come back.
 use Rattle.text.specs.Prelude.{ℕ, ◌+◌, ◌≤◌, ◌<◌, ◌≡◌, true, false, List, [], ◌∷◌, ◌++◌, length, drop, ok, bind, pick}
-use Rattle.text.specs.Prelude.{◌=?◌, byte, cut}
+use Rattle.text.specs.Prelude.{◌=?◌, byte, cut, None, Res}
 use Rattle.text.proofs.Prelude.{arith, refl, sym, ap, ◌∙◌, append_assoc, length-drop, get_or-drop, on, first, yes≤, is≤}
 use Rattle.text.proofs.Prelude.{is=, both, by_test}
 use native.Mathlib.Nat.{add-sub_cancel_left}
 use borrow.Author.Tests.{eqb-false}
 use Rattle.part.specs.Part.{bytes_of, find_maybe, text_of, part_text, maybe_text}
-use Rattle.part.specs.declared.MaybePart.TheVariants.{Missing}
 use Rattle.text.proofs.Finds.{Finds, finds_ok, finds_guard}
 use Rattle.field.specs.Field.{is_ascii_of, ascii_in}
 use Rattle.h_record.specs.HRecord.{source_byte, source_of, colon_in, named, read_h, char_text, name_text, data_text, h_body}
@@ -30,7 +29,7 @@ second_ascii [] h = omega arith
 second_ascii (a ∷ []) h = omega arith
 second_ascii (a ∷ b ∷ s) h = is≤ (both (both h).1).0
 
-missing_text : (s : List ℕ) → ok [] ≡ maybe_text Missing s
+missing_text : (s : List ℕ) → ok [] ≡ maybe_text None s
 unfolding maybe_text find_maybe text_of bytes_of bind
 missing_text s = refl
 
@@ -48,7 +47,8 @@ module _ (s : List ℕ) (b : byte 0 s ≡ 72) (l : 6 ≤ length s) (ascii : is_a
 
   -- the letter, source and mnemonic, and what stands behind them
   header_head : (u : List ℕ) → u ≡ drop 5 s →
-      ok s ≡ ok ((72 ∷ []) ++ (char_text (source_byte (source_of (byte 1 s))) ++ (cut 2 5 s ++ u)))
+      ◌≡◌ {A = Res (List ℕ)} (ok s)
+      (ok ((72 ∷ []) ++ (char_text (source_byte (source_of (byte 1 s))) ++ (cut 2 5 s ++ u))))
   header_head u e = rw (e, source_text, cut_joined 2 3 s, joined_byte 1 s (omega arith), ← b)
       (ap ok (sym (joined_byte 0 s (omega arith))))
 

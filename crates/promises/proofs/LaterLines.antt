@@ -1,5 +1,5 @@
 -- Lines after the last point do not matter.
-use Rattle.text.specs.Prelude.{ℕ, zero, suc, ◌+◌, ◌≡◌, true, false, List, [], ◌∷◌, ◌++◌, map, length, ℤ, pos, negsuc}
+use Rattle.text.specs.Prelude.{ℕ, zero, suc, ◌+◌, ◌≡◌, true, List, [], ◌∷◌, ◌++◌, map, length, pos, negsuc}
 use Rattle.text.specs.Prelude.{pick}
 use Rattle.text.proofs.Prelude.{arith, refl, never, by_test}
 use Rattle.igc_log.specs.Line.{line_text}

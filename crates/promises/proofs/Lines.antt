@@ -5,10 +5,10 @@ use native.Mathlib.Nat.{le_refl}
 use Rattle.part.specs.Part.{bytes_of, find_part, text_of, part_text}
 use Rattle.text.proofs.Finds.{Finds, finds_ok, finds_bind, finds_guard}
 use Rattle.print.specs.Print.{answer_to, left_by}
-use Rattle.table.specs.Table.{read_table, table_read, table_text}
+use Rattle.table.specs.Table.{read_table, table_text}
 use Rattle.table.specs.declared.Table.{Table}
 use Rattle.c_record.specs.CRecord.{turns}
-use Rattle.records.specs.Record.{kind_of, whole, read_c, read_kind, read_line_of}
+use Rattle.records.specs.Record.{table_left, kind_of, whole, read_c, read_kind, read_line_of}
 use Rattle.record_print.specs.Printed.{record_text}
 use Rattle.promises.specs.Odd.{declaration_odd, turnpoint_odd, table_odd, line_odd, comes_always}
 use Rattle.promises.specs.Back.{Back, Reprints, ComesBack}
@@ -24,7 +24,7 @@ use Rattle.promises.proofs.Tables.{table_again}
 module _ (s : List ℕ) where
   -- the table that is handed over beside the record
   abbrev t : Table
-  t = (table_read (read_table s)).table
+  t = table_left (read_table s)
 
   c_again : byte 0 s ≡ 67 →
       Finds (read_c s) (λ r. Again (pick (turns s) (turnpoint_odd s) (declaration_odd s)) s (record_text r t s))
@@ -35,8 +35,8 @@ module _ (s : List ℕ) where
       (λ e. rw e (finds_bind (declaration_again_lem s h) (λ r a. finds_ok a))))
 
   table_line : (b : ℕ) → byte 0 s ≡ b → Finds (read_table s) (λ _. Again (table_odd s) s (table_text b t))
-  unfolding table_read
-  table_line b h = record { found = λ ds e. rw (ap (λ m. (table_read m).table) e) ((table_again s b h).found ds e) }
+  unfolding table_left
+  table_line b h = record { found = λ ds e. rw (ap (λ m. table_left m) e) ((table_again s b h).found ds e) }
 
   whole_text : ok s ≡ part_text (whole s) s
   unfolding whole part_text text_of find_part bytes_of

@@ -1,6 +1,6 @@
 -- A lookup by name refuses in the named cases alone, and gives the stated value in every other.
 use Rattle.text.specs.Prelude.{ℕ, ◌+◌, ◌≤◌, ◌≡◌, Bool, true, false, List, [], ◌∷◌, Res, ok, no, bind, guard, pick}
-use Rattle.text.specs.Prelude.{number_of}
+use Rattle.text.specs.Prelude.{◌≤?◌, number_of}
 use Rattle.text.proofs.Prelude.{arith, refl, sym, ap, ◌∙◌, subst, on, pass, yes≤, is≤, isnt≤}
 use Rattle.part.specs.Part.{find_part}
 use Rattle.text.specs.declared.refusal.Refusal.{Refusal}
@@ -14,7 +14,7 @@ use Rattle.extension.specs.Value.{find_value}
 use Rattle.extension.specs.declared.Extension.{Extension}
 use Rattle.table.specs.declared.Table.{Table}
 use Rattle.held.specs.Held.{same_name, first_named_of, in_force, define, look_up}
-use Rattle.held.specs.declared.{Held.Held, Slot.Slot}
+use Rattle.held.specs.declared.Held.{Held}
 use Rattle.promises.specs.Lookup.{Defined, Why, no_line, last_refused, over_99, no_name, outside, start_in_base}
 use Rattle.promises.specs.Lookup.{end_before_start, past_the_rest, Refuses, StateAlone, Gives}
 
@@ -47,14 +47,14 @@ module _ {A : Type 0} {W : Refusal → Type 0} where
 
 -- ---- the table in force
 
--- it is the one that is held, where its slot is set
-in_force_lem : (k : Slot) (t : Table) → Finds (in_force k t) (λ u. (u ≡ t) × (k ≡ Slot.Set))
+-- it is the one that is held
+in_force_lem : (h : Held) → Finds (in_force h) (λ t. h ≡ Held.Set t)
 unfolding in_force
-in_force_lem Slot.Never t = finds_no
-in_force_lem Slot.Spoiled t = finds_no
-in_force_lem Slot.Set t = finds_ok (refl, refl)
+in_force_lem Held.Never = finds_no
+in_force_lem Held.Spoiled = finds_no
+in_force_lem (Held.Set t) = finds_ok refl
 
-is_in_force : {k : Slot} (t : Table) → k ≡ Slot.Set → ok t ≡ in_force k t
+is_in_force : {h : Held} (t : Table) → h ≡ Held.Set t → ok t ≡ in_force h
 unfolding in_force
 is_in_force t e = rw e
 
@@ -74,30 +74,28 @@ module _ (base : ℕ) (rest : Part) (h : Held) (name : Mnemonic) (s : List ℕ) 
       by false e more = more e
 
   -- there is no table in the first two cases alone
-  stops_in_force : (k : Slot) → h.slot ≡ k → Stops (in_force k h.table) W
+  stops_in_force : (k : Held) → h ≡ k → Stops (in_force k) W
   unfolding in_force
-  stops_in_force Slot.Never e = stops_no (no_line refl e)
-  stops_in_force Slot.Spoiled e = stops_no (last_refused refl e)
-  stops_in_force Slot.Set e = stops_ok
+  stops_in_force Held.Never e = stops_no (no_line refl e)
+  stops_in_force Held.Spoiled e = stops_no (last_refused refl e)
+  stops_in_force (Held.Set t) e = stops_ok
 
   -- no definition is found in these and the next two
   stops_define : Stops (define h name) W
   unfolding define
   stops_define =
-      stops_bind (stops_in_force h.slot refl) (λ t f.
-      let same : t ≡ h.table = ((in_force_lem h.slot h.table).found t f).0 in
-      stops_guard _ (λ k. over_99 refl (rw same at (isnt≤ k))) (λ k.
-      record { stopped = λ n f. let i = first_15 (defs_of t) n f in no_name i (rw same at (f ∙ ap no i)) }))
+      stops_bind (stops_in_force h refl) (λ t f.
+      let set : h ≡ Held.Set t = (in_force_lem h).found t f in
+      stops_guard _ (λ k. over_99 refl t set (isnt≤ k)) (λ k.
+      record { stopped = λ n f. let i = first_15 (defs_of t) n f in no_name i t set (f ∙ ap no i) }))
 
   -- one that is found is the table's
   defined : (e : Extension) → define h name ≡ ok e → Defined base rest h name s e
   unfolding define
   defined e d =
       let all : Finds (define h name) (Defined base rest h name s) =
-      finds_bind (in_force_lem h.slot h.table) (λ t p. finds_guard _ (λ k.
-      record {
-        found = λ x f. record { in_force_lem = p.1; count = rw p.0 at (is≤ k); first = rw p.0 at f };
-      })) in
+      finds_bind (in_force_lem h) (λ t p. finds_guard _ (λ k.
+      record { found = λ x f. record { table = t; in_force_lem = p; count = is≤ k; first = f } })) in
       all.found e d
 
   -- the cases, in the order of the checks
@@ -107,8 +105,8 @@ module _ (base : ℕ) (rest : Part) (h : Held) (name : Mnemonic) (s : List ℕ) 
       (stops_bind stops_define (λ e d.
       stops_bind (stops_guard _ (λ k. outside refl (isnt≤ k)) (λ k. stops_ok)) (λ q f.
       let same : q ≡ rest = (inside rest s (sym f)).same in
-      stops_guard _ (λ k.
-      start_in_base refl e (defined e d) (omega (arith, isnt≤ {a = base + 1} {b = e.start_byte} k))) (λ k.
+      stops_guard _ (λ (k : (base + 1 ≤? e.start_byte) ≡ false).
+      start_in_base refl e (defined e d) (omega (arith, isnt≤ k))) (λ k.
       stops_guard _ (λ k. end_before_start refl e (defined e d) (isnt≤ k)) (λ k.
       stops_guard _ (λ k. past_the_rest refl e (defined e d) (rw (← same) (isnt≤ k))) (λ k. stops_ok)))))).stopped n r
 
@@ -116,7 +114,7 @@ module _ (base : ℕ) (rest : Part) (h : Held) (name : Mnemonic) (s : List ℕ) 
   pub gives : Gives base rest h name s
   unfolding look_up define find_value find_part
   gives e d i b o l =
-      sym (on _ (on _ (is_in_force h.table d.in_force_lem) (pass _ (yes≤ d.count) (sym d.first)))
+      sym (on _ (on _ (is_in_force d.table d.in_force_lem) (pass _ (yes≤ d.count) (sym d.first)))
       (on _ (pass _ (yes≤ i) refl) (pass _ (yes≤ (omega arith)) (pass _ (yes≤ o) (pass _ (yes≤ l) refl)))))
 
   -- where it is 13 or more it is the definition's

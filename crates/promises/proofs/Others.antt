@@ -1,6 +1,6 @@
 -- D, G and L lines always come back.
-use Rattle.text.specs.Prelude.{ℕ, ◌≤◌, ◌<◌, ◌≡◌, false, List, [], ◌∷◌, ◌++◌, length, drop, ok, pick, ◌=?◌, byte, begins}
-use Rattle.text.proofs.Prelude.{arith, refl, sym, ap, on, is≤, is=, both}
+use Rattle.text.specs.Prelude.{ℕ, ◌≤◌, ◌<◌, ◌≡◌, false, List, [], ◌∷◌, ◌++◌, length, drop, ok, byte, begins}
+use Rattle.text.proofs.Prelude.{arith, sym, ap, on, is≤, is=, both}
 use Rattle.text.proofs.Finds.{Finds, finds_ok, finds_no, finds_bind, finds_guard, finds_pick}
 use Rattle.field.specs.Field.{ascii_in, ascii}
 use Rattle.d_record.specs.DRecord.{qualifier_letter, qualifier_of, read_station, read_d, d_body, d_text}

@@ -1,14 +1,13 @@
 -- Where a refusal with 3 points.
-use Rattle.text.specs.Prelude.{ℕ, zero, suc, ◌+◌, ◌-◌, ◌*◌, ◌≤◌, ◌<◌, min, ◌≡◌, Bool, true, false, List, length, drop}
-use Rattle.text.specs.Prelude.{Res, ok, no, bind, moved, guard, pick, place_of, placed, moved_by, ◌≤?◌, ◌=?◌, byte, cut}
-use Rattle.text.specs.Prelude.{columns, largest, read_nat_of, read_int_of, read_digits_of}
+use Rattle.text.specs.Prelude.{ℕ, zero, suc, ◌+◌, ◌-◌, ◌*◌, ◌≤◌, ◌<◌, ◌≡◌, Bool, true, false, List, length, drop}
+use Rattle.text.specs.Prelude.{Res, ok, no, bind, moved, guard, pick, place_of, placed, moved_by, byte, cut}
+use Rattle.text.specs.Prelude.{columns, largest, read_nat_of, read_int_of, read_digits_of, None, Some}
 use Rattle.text.proofs.Prelude.{arith, refl, sym, ap, ◌∙◌, length-drop, length-take, is=, is≤}
-use Rattle.text.specs.declared.{refusal.Refusal.Refusal, refusal.MaybePlace.MaybePlace}
+use Rattle.text.specs.declared.{refusal.Refusal.Refusal}
 use Rattle.text.specs.declared.refusal.Refusal.TheVariants.{UnreadableNumber, Syntax, NotAscii, OutOfRange}
 use Rattle.text.specs.declared.refusal.Refusal.TheVariants.{WrongLength}
 use Rattle.text.specs.declared.refusal.Refusal.TheVariants.{BadExtension, MissingExtension, OutsideLine, NoRoom}
 use Rattle.text.specs.declared.refusal.Refusal.TheVariants.{NoTable, SpoiledTable, NotDefined}
-use Rattle.text.specs.declared.refusal.MaybePlace.TheVariants.{At, Missing}
 use Rattle.field.specs.Field.{sized, ascii_in, ascii, field}
 use Rattle.field.proofs.Digits.{other_inside}
 use Rattle.three.specs.Three.{read_three_of}
@@ -52,16 +51,16 @@ aimed read p s some fits = record { at = p s some fits }
 pub points : {A : Type 0} (read : List ℕ → Res A) → Aimed read → Points read
 points read p s some fits = (p s some fits).at
 
-unplaced : {X : Type 0} {n : Refusal} {place : ℕ} → place_of n ≡ Missing → n ≡ UnreadableNumber place → X
+unplaced : {X : Type 0} {n : Refusal} {place : ℕ} → place_of n ≡ None → n ≡ UnreadableNumber place → X
 unplaced {place} h e =
-    let f : At place ≡ Missing = sym (ap place_of e) ∙ h in
+    let f : Some place ≡ None = sym (ap place_of e) ∙ h in
     let z : ◌≡◌ {A = ℕ} 0 1 = cc in let x : ⊥ = omega arith in absurd x
 
 module _ {A : Type 0} {a b : ℕ} where
   pub aims_ok : {v : A} → Aims a b (ok v)
   aims_ok = record { at = λ place e. let z : ◌≡◌ {A = ℕ} 0 1 = cc in let x : ⊥ = omega arith in absurd x }
 
-  pub aims_no : {n : Refusal} → place_of n ≡ Missing → Aims {A = A} a b (no n)
+  pub aims_no : {n : Refusal} → place_of n ≡ None → Aims {A = A} a b (no n)
   aims_no {n} h = record { at = λ place e. let same : n ≡ UnreadableNumber place = cc in unplaced h same }
 
   aims_same : {B : Type 0} {n : Refusal} → Aims {A = B} a b (no n) → Aims {A = A} a b (no n)
@@ -83,7 +82,7 @@ module _ {A : Type 0} {a b : ℕ} where
   aims_or n {t = true} p q = q refl
   aims_or n {t = false} p q = p refl
 
-  pub aims_guard : (n : Refusal) → place_of n ≡ Missing → {t : Bool} {r : Res A} → (t ≡ true → Aims a b r) →
+  pub aims_guard : (n : Refusal) → place_of n ≡ None → {t : Bool} {r : Res A} → (t ≡ true → Aims a b r) →
       Aims a b (guard t n r)
   aims_guard n h p = aims_or n (λ _. aims_no h) p
 

@@ -31,8 +31,8 @@ unfolding
     all_digits_of first_other_of value_from read_digits_of read_nat_of read_int_of digits places_in places_of padded signed zeros is_ascii_of
     cut columns
     sized ascii_in ascii field mnemonic_text read_three_of three_text time_of read_time_of time_text seconds_of_lem date_of read_date
-    date_text compass_letter sign_of coord_of lettered read_coord latitude read_latitude maker.letter_of_lem maker.triple_spelt
-    maker.triple_of maker.known maker.first_of maker.is_letter maker.is_triple maker.letter_maker maker.triple_maker
+    date_text compass_letter sign_of coord_of lettered read_coord latitude read_latitude maker.letter_of_lem
+    maker.triple_of maker.first_of maker.is_letter maker.is_triple maker.letter_maker maker.triple_maker
     read_definition read_extension read_defs read_body is_table_of read_table find_value a_new a_of letter_form long_form
     read_triple read_a triple_text a_body a_text turns read_flight_of read_task_of read_declaration flight_text task_text
     declaration_body declaration_text source_byte source_of colon_in named read_h kind_of whole read_c read_kind

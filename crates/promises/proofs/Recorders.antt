@@ -1,11 +1,11 @@
 -- A lines come back where they have a triple.
-use Rattle.text.specs.Prelude.{ℕ, ◌+◌, ◌≤◌, ◌≡◌, true, List, [], ◌∷◌, ◌++◌, length, drop, ok, byte}
+use Rattle.field.specs.declared.Mnemonic.{Mnemonic}
+use Rattle.text.specs.Prelude.{ℕ, ◌+◌, ◌≤◌, ◌≡◌, true, List, [], ◌∷◌, ◌++◌, length, drop, ok, byte, None, Option, Some}
 use Rattle.text.proofs.Prelude.{arith, ap, length-drop, length-append, on, is≤, both, never}
 use Rattle.text.proofs.Finds.{Finds, finds_ok, finds_guard, finds_pick}
 use Rattle.field.specs.Field.{ascii_in, mnemonic_text}
 use Rattle.manufacturer.specs.Maker.{letter_maker, triple_maker, triple_of}
-use Rattle.manufacturer.specs.declared.{Manufacturer.Manufacturer, MaybeTriple.MaybeTriple}
-use Rattle.manufacturer.specs.declared.MaybeTriple.TheVariants.{Missing, Triple}
+use Rattle.manufacturer.specs.declared.Manufacturer.{Manufacturer}
 use Rattle.manufacturer.proofs.Codes.{triple_read}
 use Rattle.a_record.specs.ARecord.{a_new, a_of, triple, letter_form, long_form, read_triple, read_a, triple_text, a_body, a_text}
 use Rattle.promises.proofs.Columns.{cut_joined, joined_byte}
@@ -33,10 +33,10 @@ module _ (s : List ℕ) (a : byte 0 s ≡ 65) where
       rw whole at (maker_made (triple_maker (triple s)) 4 w l)
 
   -- no maker prints one byte, so the letter form never comes back
-  one_byte : (x : MaybeTriple) → length (triple_text x) ≡ 1 → ⊥
+  one_byte : (x : Option Mnemonic) → length (triple_text x) ≡ 1 → ⊥
   unfolding triple_text mnemonic_text
-  one_byte Missing h = omega arith
-  one_byte (Triple t) h = omega arith
+  one_byte None h = omega arith
+  one_byte (Some t) h = omega arith
 
   letter_again : 7 ≤ length s → letter_form s ≡ true → Again (letter_form s) s
       (a_text (a_of s (letter_maker (byte 1 s)) 2 5) s)

@@ -1,7 +1,7 @@
 -- The flight date of a declaration settles: one of zeros with a plus becomes none.
 use Rattle.text.specs.Prelude.{ℕ, zero, suc, ◌+◌, ◌-◌, ◌*◌, ◌≤◌, ◌≡◌, Bool, true, false, List, [], ◌∷◌, ◌++◌, length}
 use Rattle.text.specs.Prelude.{ok, bind, pick, ◌≤?◌, ◌=?◌, ◌∧?◌, ◌∨?◌, cut, read_nat_of, read_digits_of, zeros, plus, padded}
-use Rattle.text.specs.Prelude.{value_from}
+use Rattle.text.specs.Prelude.{value_from, None, Option, Some}
 use Rattle.text.proofs.Prelude.{arith, refl, sym, ap, ◌∙◌, yes=, no=, is=, by_test, never}
 use Rattle.text.proofs.Finds.{Finds, finds_map, finds_ok, finds_bind, finds_guard, finds_pick}
 use Rattle.text.proofs.Decimal.{head_digit, zero_zeros, all_padded, value_padded}
@@ -12,7 +12,6 @@ use Rattle.three.specs.Three.{read_three_of, three_text}
 use Rattle.date.specs.Date.{read_date, date_text}
 use Rattle.date.specs.declared.Date.{Date}
 use Rattle.c_record.specs.CRecord.{read_flight_of, flight_text}
-use Rattle.c_record.specs.declared.MaybeDate.{MaybeDate}
 use Rattle.promises.specs.Odd.{three_plus}
 use Rattle.promises.specs.Settle.{pair_zero}
 use Rattle.promises.proofs.Columns.{finds_columns, finds_field}
@@ -91,13 +90,13 @@ same_pick true a = refl
 same_pick false a = refl
 
 -- no flight date
-none_piece : Piece read_flight_of three_plus 6 MaybeDate.Missing (flight_text MaybeDate.Missing)
+none_piece : Piece read_flight_of three_plus 6 None (flight_text None)
 unfolding read_flight_of flight_text three_plus plus cut zeros is_ascii_of ◌≤?◌ ◌=?◌ ◌∧?◌ ◌∨?◌ pick
 none_piece = record { long = refl; reads = refl; plain = refl; ascii = refl }
 
 -- a date that is read from other columns than zeros
 date_again : (s : List ℕ) (d : Date) → zeros s ≡ false → read_date s ≡ ok d →
-    Piece read_flight_of three_plus 6 (pick (flight_zero s) MaybeDate.Missing (MaybeDate.On d)) (date_text d)
+    Piece read_flight_of three_plus 6 (pick (flight_zero s) None (Some d)) (date_text d)
 unfolding read_flight_of flight_zero bind pick ◌∧?◌
 date_again s d n r =
     let p = (date_piece s).found d r in
@@ -110,9 +109,9 @@ date_again s d n r =
 
 pub flight_piece : (s : List ℕ) →
     Finds (read_flight_of s)
-    (λ f. Piece read_flight_of three_plus 6 (pick (flight_zero s) MaybeDate.Missing f) (flight_text f))
+    (λ f. Piece read_flight_of three_plus 6 (pick (flight_zero s) None f) (flight_text f))
 unfolding read_flight_of flight_text
 flight_piece s =
     finds_pick
-    (λ _. finds_ok (rw (same_pick (flight_zero s) MaybeDate.Missing) none_piece))
+    (λ _. finds_ok (rw (same_pick {A = Option Date} (flight_zero s) None) none_piece))
     (λ n. finds_bind finds_itself (λ d r. finds_ok (date_again s d n r)))

@@ -23,7 +23,7 @@ unfolding
     bind moved guard pick placed moved_by ◌≤?◌ ◌=?◌ ◌∧?◌ ◌∨?◌ bytes_of find_part find_maybe text_of part_text maybe_text
     rest_from name_from is_digit_of all_digits_of first_other_of value_from read_digits_of read_nat_of read_int_of digits places_in places_of padded
     signed zeros is_ascii_of cut columns sized ascii_in ascii field mnemonic_text read_three_of three_text time_of read_time_of time_text
-    date_of read_date date_text maker.letter_of_lem maker.triple_spelt maker.triple_of maker.known maker.first_of maker.is_letter
+    date_of read_date date_text maker.letter_of_lem maker.triple_of maker.first_of maker.is_letter
     maker.is_triple maker.letter_maker maker.triple_maker a_new a_of letter_form long_form read_triple read_a triple_text a_body
     a_text turns read_flight_of read_task_of read_declaration flight_text task_text declaration_body declaration_text kind_of read_c
     read_kind read_line_of record_text record_table answer_printed reprinted spelt_from spelt

@@ -4,8 +4,7 @@ use Rattle.text.specs.Prelude.{guard, pick, ◌≤?◌, ◌=?◌, ◌∨?◌, by
 use Rattle.text.specs.declared.refusal.Refusal.TheVariants.{NoRoom}
 use Rattle.text.proofs.Prelude.{arith, refl, sym, ap, ◌∙◌, take_at, pass, yes≤, is≤, by_test, never}
 use Rattle.text.proofs.Finds.{Finds, finds_any, finds_map, finds_ok, finds_bind, finds_guard, finds_pick}
-use Rattle.print.specs.Print.{answer_to, left_by, printed_res, Prints}
-use Rattle.print.specs.declared.printed.Printed.{Printed}
+use Rattle.print.specs.Print.{answer_to, left_by, Prints}
 use Rattle.table.specs.Table.{read_table, table_read, table_text}
 use Rattle.table.specs.declared.Table.{Table}
 use Rattle.a_record.specs.ARecord.{letter_form, read_a}
@@ -15,7 +14,7 @@ use Rattle.d_record.specs.DRecord.{read_d}
 use Rattle.g_record.specs.GRecord.{read_g}
 use Rattle.h_record.specs.HRecord.{read_h}
 use Rattle.l_record.specs.LRecord.{read_l}
-use Rattle.records.specs.Record.{kind_of, read_c, read_kind, read_line_of}
+use Rattle.records.specs.Record.{table_left, kind_of, read_c, read_kind, read_line_of}
 use Rattle.records.specs.declared.Record.{Record}
 use Rattle.record_print.specs.Printed.{record_text}
 use Rattle.promises.specs.Odd.{declaration_odd, turnpoint_odd, table_odd, line_odd}
@@ -34,7 +33,7 @@ use Rattle.promises.proofs.SettlesTimed.{e_kept, f_kept, k_kept}
 
 -- the table that is handed over beside a line's record
 abbrev table_beside : List ℕ → Table
-table_beside s = (table_read (read_table s)).table
+table_beside s = table_left (read_table s)
 
 -- I or J
 abbrev tabled : List ℕ → Bool
@@ -48,7 +47,7 @@ settled {s} {x} {r} e o t d = record {
   accepted = e;
   texts = t;
   definitions = d;
-  same = (comes_back x (read_again s r) (table_read (read_table x)) (record { answer = sym e; table = refl })).back o;
+  same = (comes_back x (read_again s r) (table_left (read_table x)) (record { answer = sym e; table = refl })).back o;
 }
 
 -- the printed text of the line s, where that was read as r, settles
@@ -58,7 +57,7 @@ TextSettles s r = read_line_of s ≡ ok r → (x : List ℕ) → ok x ≡ record
 -- a line that is not odd is its own text
 plain_settles : {s : List ℕ} {r : Record} → line_odd s ≡ false → read_again s r ≡ r → TextSettles s r
 plain_settles {s} {r} o a e x p =
-    let itself = ((comes_back s r (table_read (read_table s)) (record { answer = sym e; table = refl })).back o).text in
+    let itself = ((comes_back s r (table_left (read_table s)) (record { answer = sym e; table = refl })).back o).text in
     let same : x ≡ s = cc (p, itself) in
     rw same (settled (e ∙ ap ok (sym a)) o (rw a) (λ _. refl))
 
@@ -153,11 +152,11 @@ module _ (s : List ℕ) where
   table_line : (b : ℕ) (w : Record) → byte 0 s ≡ b → texts_of w ≡ [] → Chosen read_table table_odd b (λ _. w) →
       table_text b (table_beside s) ≡ record_text w (table_beside s) s → read_again s w ≡ w →
       Finds (bind (read_table s) (λ _. ok w)) (TextSettles s)
-  unfolding table_read
+  unfolding table_read table_left bind
   table_line b w h none c t a =
       finds_bind finds_itself (λ ds e.
       finds_ok (λ _ x p. kept_settles c a (λ _ y q. rw (q, e)) ((table_kept s b w h none).found ds e) x
-      (p ∙ sym t ∙ ap (λ m. table_text b (table_read m).table) e)))
+      (p ∙ sym t ∙ ap (λ m. table_text b (table_left m)) e)))
 
   -- a kind that always comes back
   plain_line : {R : Type 0} (m : Res R) (wrap : R → Record) → line_odd s ≡ false →
@@ -195,7 +194,7 @@ module _ (s : List ℕ) where
 -- ---- the programs
 
 -- what was written is the text
-written_text : {m : Res (List ℕ)} {b b' x : List ℕ} {p : Printed} {n : ℕ} → Prints m b b' p → printed_res p ≡ ok n →
+written_text : {m : Res (List ℕ)} {b b' x : List ℕ} {p : Res ℕ} {n : ℕ} → Prints m b b' p → p ≡ ok n →
     m ≡ ok x → take n b' ≡ x
 unfolding answer_to left_by bind guard pick
 written_text {b} {x} {n} w e t =
@@ -212,4 +211,4 @@ printing_settles s r t k u b b' p n w e =
     let read : read_line_of s ≡ ok r = sym k.answer in
     rw (written_text w e found.1)
     ((line_settles s u).found r read read found.0
-    (sym found.1 ∙ ap (λ y. record_text r y.table s) k.table))
+    (sym found.1 ∙ ap (λ y. record_text r y s) k.table))

@@ -1,6 +1,6 @@
 -- A lines in letter form with a known maker settle: the maker's three letters stand in the place of the one.
 use Rattle.text.specs.Prelude.{ℕ, ◌+◌, ◌-◌, ◌≤◌, ◌≡◌, Bool, true, false, not, List, [], ◌∷◌, length, drop, ok, pick}
-use Rattle.text.specs.Prelude.{◌≤?◌, ◌∧?◌, byte, cut, is_digit_of, all_digits_of}
+use Rattle.text.specs.Prelude.{◌≤?◌, ◌∧?◌, byte, cut, is_digit_of, all_digits_of, None, Option, Some}
 use Rattle.text.proofs.Prelude.{arith, refl, sym, ap, ◌∙◌, length-drop, drop-drop, pass, first, second, yes≤, no≤, yes=}
 use Rattle.text.proofs.Prelude.{is≤, isnt≤, fails, both, and, by_test, never}
 use mathlib.Core.Logic.{◌⊎◌, inl, inr}
@@ -9,8 +9,8 @@ use Rattle.text.proofs.Finds.{Finds, finds_ok, finds_guard, finds_pick}
 use Rattle.part.specs.Part.{bytes_of, rest_from, name_from}
 use Rattle.field.specs.Field.{is_ascii_of, ascii_in, mnemonic_text}
 use Rattle.field.specs.declared.Mnemonic.{Mnemonic}
-use Rattle.manufacturer.specs.Maker.{letter_of_lem, triple_spelt, triple_of, known, first_of, letter_maker, triple_maker}
-use Rattle.manufacturer.specs.declared.{Manufacturer.Manufacturer, MaybeLetter.MaybeLetter, MaybeTriple.MaybeTriple}
+use Rattle.manufacturer.specs.Maker.{letter_of_lem, triple_of, known, first_of, letter_maker, triple_maker}
+use Rattle.manufacturer.specs.declared.Manufacturer.{Manufacturer}
 use Rattle.manufacturer.proofs.Codes.{letter_read, read_triple_lem}
 use Rattle.a_record.specs.ARecord.{a_new, a_of, letter_form, long_form, read_triple, read_a, triple_text, a_text}
 use Rattle.a_record.specs.declared.ARecord.{ARecord}
@@ -23,9 +23,9 @@ use Rattle.promises.proofs.Settling.{Kept}
 -- ---- makers
 
 -- a triple is ASCII, and no digit stands in its second place
-lettered : MaybeTriple → Bool
-lettered MaybeTriple.Missing = true
-lettered (MaybeTriple.Triple t) = is_ascii_of (mnemonic_text t) ∧? not (is_digit_of t.1)
+lettered : Option Mnemonic → Bool
+lettered None = true
+lettered (Some t) = is_ascii_of (mnemonic_text t) ∧? not (is_digit_of t.1)
 
 -- a test that all makers of a list pass
 every : (Manufacturer → Bool) → List Manufacturer → Bool
@@ -41,11 +41,11 @@ first_passes p test other o (m ∷ ms) h = let k = both h in
 
 -- the maker that a letter is read as has a triple of letters
 letters_only : (l : ℕ) → lettered (triple_of (letter_maker l)) ≡ true
-unfolding letter_maker lettered every known triple_of triple_spelt is_ascii_of mnemonic_text is_digit_of ◌≤?◌ ◌∧?◌ pick
+unfolding letter_maker lettered every triple_of is_ascii_of mnemonic_text is_digit_of ◌≤?◌ ◌∧?◌ pick
 letters_only l = first_passes (λ m. lettered (triple_of m)) _ (Manufacturer.UnknownSingle l) refl known refl
 
 -- and that triple is read as the same maker
-made_again : (l : ℕ) (t : Mnemonic) → triple_of (letter_maker l) ≡ MaybeTriple.Triple t → triple_maker t ≡ letter_maker l
+made_again : (l : ℕ) (t : Mnemonic) → triple_of (letter_maker l) ≡ Some t → triple_maker t ≡ letter_maker l
 unfolding letter_of_lem
 made_again l t e = by (read_triple_lem (letter_maker l) e)
   where
@@ -53,13 +53,13 @@ made_again l t e = by (read_triple_lem (letter_maker l) e)
         triple_maker t ≡ letter_maker l
     by (inl h) = h
     by (inr h) =
-        let n : MaybeLetter.Missing ≡ MaybeLetter.Letter l = sym (ap letter_of_lem h) ∙ letter_read l in
+        let n : None ≡ Some l = sym (ap letter_of_lem h) ∙ letter_read l in
         let z : ◌≡◌ {A = ℕ} 0 1 = cc in absurd (omega arith)
 
 -- ---- the line
 
 module _ (s : List ℕ) (t : Mnemonic) (l : 7 ≤ length s) (form : letter_form s ≡ true)
-    (e : triple_of (letter_maker (byte 1 s)) ≡ MaybeTriple.Triple t) where
+    (e : triple_of (letter_maker (byte 1 s)) ≡ Some t) where
   abbrev x : List ℕ
   x = 65 ∷ t.0 ∷ t.1 ∷ t.2 ∷ drop 2 s
 
@@ -110,10 +110,10 @@ module _ (s : List ℕ) (t : Mnemonic) (l : 7 ≤ length s) (form : letter_form 
   }
 
 -- a maker that prints a triple has one
-has_triple : (m : MaybeTriple) → prints_none m ≡ false → (t : Mnemonic) × (m ≡ MaybeTriple.Triple t)
+has_triple : (m : Option Mnemonic) → prints_none m ≡ false → (t : Mnemonic) × (m ≡ Some t)
 unfolding prints_none
-has_triple MaybeTriple.Missing h = never refl h
-has_triple (MaybeTriple.Triple t) h = (t, refl)
+has_triple None h = never refl h
+has_triple (Some t) h = (t, refl)
 
 pub a_kept : (s : List ℕ) → byte 0 s ≡ 65 → unknown_maker s ≡ false → letter_form s ≡ true →
     Finds (read_a s) (λ r. Kept read_a letter_form 65 Record.A s r (recorder_again s r) (a_text r s))

@@ -1,6 +1,6 @@
 -- C lines settle.
 use Rattle.text.specs.Prelude.{ℕ, ◌≤◌, ◌≡◌, List, [], ◌∷◌, ◌++◌, length, drop, ℤ, pick, cut, read_nat_of, read_int_of, plus}
-use Rattle.text.specs.Prelude.{padded, signed}
+use Rattle.text.specs.Prelude.{padded, signed, None}
 use Rattle.text.proofs.Prelude.{arith, refl, sym, length-append, length-drop, on, pass, yes≤, yes=, is≤}
 use Rattle.text.proofs.Finds.{Finds, finds_ok, finds_bind, finds_guard}
 use Rattle.part.specs.Part.{name_from}
@@ -11,7 +11,7 @@ use Rattle.date.specs.Date.{read_date, date_text}
 use Rattle.position.specs.Position.{read_position, position_text}
 use Rattle.c_record.specs.CRecord.{read_flight_of, flight_text, read_task_of, task_text, read_declaration, declaration_body}
 use Rattle.c_record.specs.CRecord.{declaration_text}
-use Rattle.c_record.specs.declared.{CRecordDeclaration.CRecordDeclaration, MaybeDate.MaybeDate}
+use Rattle.c_record.specs.declared.CRecordDeclaration.{CRecordDeclaration}
 use Rattle.c_turnpoint_record.specs.CTurnpoint.{read_turnpoint, turnpoint_body, turnpoint_text}
 use Rattle.c_turnpoint_record.specs.declared.CRecordTurnpoint.{CRecordTurnpoint}
 use Rattle.records.specs.declared.Record.{Record}
@@ -89,7 +89,7 @@ module _ (s : List ℕ) (l : 25 ≤ length s) (r : CRecordDeclaration) (e : r.ta
     (date : Piece read_date three_plus 6 r.date (date_text r.date))
     (time : Piece read_time_of three_plus 6 r.time (time_text r.time))
     (flight : Piece read_flight_of three_plus 6
-    (pick (flight_zero (cut 13 19 s)) MaybeDate.Missing r.flight_date) (flight_text r.flight_date))
+    (pick (flight_zero (cut 13 19 s)) None r.flight_date) (flight_text r.flight_date))
     (id : TaskId r.task_id) (count : Count r.turnpoint_count) where
   task_kept :
       Kept read_declaration declaration_odd 67 Record.CDeclaration s r (declaration_again s r) (declaration_text r s)

@@ -5,7 +5,7 @@ use Rattle.text.proofs.Finds.{Finds, finds_ok, finds_no, finds_bind, finds_guard
 use Rattle.part.specs.Part.{bytes_of, text_of, part_text, maybe_text}
 use Rattle.part.specs.Part as part
 use Rattle.part.specs.declared.Part.{Part}
-use Rattle.table.specs.Table.{read_table, table_read, table_text}
+use Rattle.table.specs.Table.{read_table, table_text}
 use Rattle.table.specs.declared.Table.{Table}
 use Rattle.a_record.specs.ARecord.{a_text}
 use Rattle.b_record.specs.BRecord.{b_text}
@@ -18,7 +18,7 @@ use Rattle.g_record.specs.GRecord.{g_text}
 use Rattle.h_record.specs.HRecord.{h_text}
 use Rattle.k_record.specs.KRecord.{k_text}
 use Rattle.l_record.specs.LRecord.{l_text}
-use Rattle.records.specs.Record.{read_line_of, record_table}
+use Rattle.records.specs.Record.{table_left, read_line_of, record_table}
 use Rattle.records.specs.declared.Record.{Record}
 use Rattle.record_print.specs.Printed.{record_text, record_piece, answer_printed, reprinted}
 use Rattle.igc_log.specs.Line.{line_text}
@@ -66,7 +66,7 @@ text_is_piece (Record.Unrecognised p) t s = text_is_shown _ s
 
 -- a record prints the same beside the table of its line and beside its own
 own_table : (r : Record) (s : List ℕ)
-    → record_text r (table_read (read_table s)).table s ≡ record_text r (record_table r s) s
+    → record_text r (table_left (read_table s)) s ≡ record_text r (record_table r s) s
 unfolding record_text record_table
 own_table (Record.A r) s = refl
 own_table (Record.B r) s = refl

@@ -1,7 +1,7 @@
 -- A fresh walk reads every line of the log once, in order, before it is done, and keeps their report; and so does the
 -- desk's reader.
 use denote.Ref.{Bor}
-use Rattle.text.specs.Prelude.{ℕ, zero, suc, ◌+◌, ◌-◌, ◌≤◌, ◌<◌, ◌≡◌, true, false, List, length, take, drop}
+use Rattle.text.specs.Prelude.{ℕ, zero, suc, ◌+◌, ◌≤◌, ◌<◌, ◌≡◌, true, false, List, length, take, drop}
 use Rattle.text.specs.Prelude.{pick, ◌≤?◌, ◌∧?◌, largest}
 use Rattle.text.proofs.Prelude.{arith, refl, sym, ap, ◌∙◌, take_all, yes≤, is≤, isnt≤, fails, and, by_test}
 use Rattle.part.specs.Part.{bytes_of}
@@ -14,11 +14,11 @@ use Rattle.report.specs.Report.{report_of, figures_in, report_after}
 use Rattle.report.proofs.Answers.{figures_made}
 use Rattle.report.proofs.Reports.{report_any}
 use Rattle.cursor.specs.Cursor.{start, past, next_of}
-use Rattle.walk.specs.Walk.{fresh, reading_of, step_of}
+use Rattle.walk.specs.Walk.{fresh, step_of}
 use Rattle.walk.specs.Readings.{reader, read_by, walked, after_steps}
 use Rattle.walk.specs.declared.{Walk.Walk, Step.Step}
-use Rattle.walk.specs.declared.Taken.TheVariants.{Line}
-use Rattle.walk.proofs.Laws.{viewed, step_on}
+use Rattle.text.specs.Prelude.{Some}
+use Rattle.walk.proofs.Laws.{step_on}
 use Rattle.walk.proofs.Steps.{Roomy, done, going, past_done, end_is_done, end_reached, roomy_fresh, roomy_on}
 use Rattle.walk.proofs.Steps.{roomy_step}
 use Rattle.walk.proofs.Reporting.{fresh_report}
@@ -43,7 +43,7 @@ module _ (s : List ℕ) (w : Walk) where
 
   -- is where a step leads that counts do not stop
   stepped : Roomy s w → w.at.place < length s →
-      step_of s w ≡ record { walk = then; taken = Line (cut_at w.at.place s).line (reading_of (read_line_of at)) }
+      step_of s w ≡ record { walk = then; taken = Some ((cut_at w.at.place s).line, read_line_of at) }
   stepped roomy p = let on = going s w (roomy_on roomy p) in step_on s w on.0 on.1 on.2
 
 -- with room for all lines that are left, k steps read the next k lines
@@ -60,7 +60,7 @@ walked_from s (suc k) w roomy =
     let p : w.at.place < length s = omega (arith, is≤ e) in
     let step = stepped s w roomy p in
     let ih = walked_from s k (then s w) (rw step at (roomy_step roomy p)) in
-    rw (step, on p, viewed (read_line_of (at s w)), ih))
+    rw (step, on p, ih))
     (λ e. let p : length s ≤ w.at.place = omega (arith, isnt≤ e) in rw (done s w (past_done s w p), off p))
 
 -- so they do from the start
@@ -82,7 +82,7 @@ handed_walked log (suc k) w roomy =
     let more : ((w.at.place + 1 ≤? length s) ∧? (w.at.number + 1 ≤? largest)) ≡ true =
     and e (yes≤ (omega (arith, roomy.number))) in
     let ih = handed_walked log k (then s w) (rw step at (roomy_step roomy p)) in
-    rw (step, more, cut_viewed s w.at.place roomy.inside, viewed (read_line_of (at s w)), ih))
+    rw (step, more, cut_viewed s w.at.place roomy.inside, ih))
     (λ e.
     let p : length s ≤ w.at.place = omega (arith, isnt≤ e) in
     let none : ((w.at.place + 1 ≤? length s) ∧? (w.at.number + 1 ≤? largest)) ≡ false = fails _ e in

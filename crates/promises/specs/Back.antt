@@ -3,29 +3,28 @@
 use Rattle.std.specs.Prelude.{◌≤◌, ◌<◌, ◌≡◌, ◌++◌}
 use Rattle.text.specs.Prelude.{ℕ, true, false, List, length, drop, Res, ok, no, byte}
 use Rattle.text.specs.declared.refusal.Refusal.TheVariants.{NoRoom}
-use Rattle.print.specs.Print.{printed_res, Prints}
-use Rattle.print.specs.declared.printed.Printed.{Printed}
-use Rattle.table.specs.Table.{read_table, table_read}
-use Rattle.table.specs.declared.TableRead.{TableRead}
-use Rattle.records.specs.Record.{read_line_of, reading_res}
-use Rattle.records.specs.declared.{Record.Record, Reading.TheVariants.Accepted}
+use Rattle.print.specs.Print.{Prints}
+use Rattle.table.specs.Table.{read_table}
+use Rattle.table.specs.declared.Table.{Table}
+use Rattle.records.specs.Record.{read_line_of, table_left}
+use Rattle.records.specs.declared.Record.{Record}
 use Rattle.record_print.specs.Printed.{record_text, reprinted}
 use Rattle.promises.specs.Odd.{line_odd, comes_always}
 use Rattle.text.specs.Spelt.{spelt}
 
 -- `Record::parse_line` accepted the line s as the record r, and `Table::parse` handed t over for it.
-pub record Parsed (s : List ℕ) (r : Record) (t : TableRead) : Type 0 where
-  pub answer : reading_res (Accepted r) ≡ read_line_of s
-  pub table : t ≡ table_read (read_table s)
+pub record Parsed (s : List ℕ) (r : Record) (t : Table) : Type 0 where
+  pub answer : ok r ≡ read_line_of s
+  pub table : t ≡ table_left (read_table s)
 
 -- The text m is the line s itself: into bytes that are long enough a printer writes the line; else it answers 10 and
 -- changes nothing.
 pub record Back (s : List ℕ) (m : Res (List ℕ)) : Type 0 where
   pub text : m ≡ ok s
-  pub room : (b b' : List ℕ) (p : Printed) → Prints m b b' p → length s ≤ length b →
-      (printed_res p ≡ ok (length s)) × (b' ≡ s ++ drop (length s) b)
-  pub no_room : (b b' : List ℕ) (p : Printed) → Prints m b b' p → length b < length s →
-      (printed_res p ≡ no NoRoom) × (b' ≡ b)
+  pub room : (b b' : List ℕ) (p : Res ℕ) → Prints m b b' p → length s ≤ length b →
+      (p ≡ ok (length s)) × (b' ≡ s ++ drop (length s) b)
+  pub no_room : (b b' : List ℕ) (p : Res ℕ) → Prints m b b' p → length b < length s →
+      (p ≡ no NoRoom) × (b' ≡ b)
 
 -- The record of an accepted line s has the text m.
 pub record Reprints (s : List ℕ) (m : Res (List ℕ)) : Type 0 where
@@ -40,7 +39,7 @@ pub record Reprints (s : List ℕ) (m : Res (List ℕ)) : Type 0 where
 
 -- `print_record` prints `record_text` of the record, its table and its line.
 abbrev pub ComesBack : Type 0
-ComesBack = (s : List ℕ) (r : Record) (t : TableRead) → Parsed s r t → Reprints s (record_text r t.table s)
+ComesBack = (s : List ℕ) (r : Record) (t : Table) → Parsed s r t → Reprints s (record_text r t s)
 
 -- ---- each exception is needed: accepted lines and what they print as
 

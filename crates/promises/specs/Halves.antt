@@ -1,8 +1,8 @@
 -- Adding up halves: totals that are joined, and the sheets that carry them from desk to desk.
+use Rattle.report.specs.Peak.{GpsPeak, PressurePeak}
 use Rattle.std.specs.Prelude.{◌≡◌, ◌++◌}
 use Rattle.text.specs.Prelude.{ℕ, List, pick}
 use Rattle.report.specs.Figures.{Figures}
-use Rattle.report.specs.declared.{pressure.PressurePeak.PressurePeak, gps.GpsPeak.GpsPeak}
 use Rattle.total.specs.Total.{Totals, Logs, total_of, no_logs, total_fits, join_of, given, refused, join_res}
 use Rattle.total.specs.Joins.{Fitting, left_first, right_first, apart_a, apart_b, apart_c}
 use Rattle.total.specs.Laws.{Sound}

@@ -9,21 +9,23 @@ use Rattle.field.specs.declared.Mnemonic.{Mnemonic}
 use Rattle.table.specs.Table.{defs_of}
 use Rattle.extension.specs.declared.Extension.{Extension}
 use Rattle.held.specs.Held.{first_named_of, define, look_up}
-use Rattle.held.specs.declared.{Held.Held, Slot.Slot}
+use Rattle.table.specs.declared.Table.{Table}
+use Rattle.held.specs.declared.Held.{Held}
 
 module _ (base : ℕ) (rest : Part) (h : Held) (name : Mnemonic) (s : List ℕ) where
   -- The table in force defines the name as e.
   pub record Defined (e : Extension) : Type 0 where
-    pub in_force_lem : h.slot ≡ Slot.Set
-    pub count : h.table.count ≤ 99
-    pub first : first_named_of name (defs_of h.table) ≡ ok e
+    pub table : Table
+    pub in_force_lem : h ≡ Held.Set table
+    pub count : table.count ≤ 99
+    pub first : first_named_of name (defs_of table) ≡ ok e
 
   -- Why a lookup refuses with n, in the order of the checks.
   pub data Why (n : Refusal) : Type 0 where
-    no_line : n ≡ NoTable → h.slot ≡ Slot.Never → Why n
-    last_refused : n ≡ SpoiledTable → h.slot ≡ Slot.Spoiled → Why n
-    over_99 : n ≡ NotDefined → 99 < h.table.count → Why n
-    no_name : n ≡ NotDefined → first_named_of name (defs_of h.table) ≡ no NotDefined → Why n
+    no_line : n ≡ NoTable → h ≡ Held.Never → Why n
+    last_refused : n ≡ SpoiledTable → h ≡ Held.Spoiled → Why n
+    over_99 : n ≡ NotDefined → (t : Table) → h ≡ Held.Set t → 99 < t.count → Why n
+    no_name : n ≡ NotDefined → (t : Table) → h ≡ Held.Set t → first_named_of name (defs_of t) ≡ no NotDefined → Why n
     outside : n ≡ OutsideLine → length s < rest.start + rest.len → Why n
     start_in_base : n ≡ BadExtension → (e : Extension) → Defined e → e.start_byte ≤ base → Why n
     end_before_start : n ≡ BadExtension → (e : Extension) → Defined e → e.end_byte < e.start_byte → Why n

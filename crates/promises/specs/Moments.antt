@@ -1,11 +1,10 @@
 -- Going to a moment: the answer by the log's own index, said over the readings of a fresh walk as one would check it.
 use Rattle.std.specs.Prelude.{◌≡◌, ◌∷◌}
-use Rattle.text.specs.Prelude.{ℕ, List, [], ok}
+use Rattle.text.specs.Prelude.{ℕ, List, [], ok, Some}
 use Rattle.time.specs.Time.{time_of}
 use Rattle.time.specs.declared.Time.{Time}
 use Rattle.b_record.specs.declared.BRecord.{BRecord}
 use Rattle.records.specs.Record.{answer_fix}
-use Rattle.records.specs.declared.MaybeFix.{MaybeFix}
 use Rattle.igc_log.specs.Log.{readings}
 use Rattle.walk.specs.Readings.{LineReading, reader}
 use Rattle.moment_fix.specs.declared.Moment.{Moment}
@@ -13,7 +12,7 @@ use Rattle.moment.specs.Moment.{index_of, by_index}
 
 -- The reading is an accepted B line, b, with those hours, minutes and seconds.
 pub record Has (t : Time) (x : LineReading) (b : BRecord) : Type 0 where
-  pub fix : answer_fix x.answer ≡ MaybeFix.Fix b
+  pub fix : answer_fix x.answer ≡ Some b
   pub hours : b.timestamp.hours ≡ t.hours
   pub minutes : b.timestamp.minutes ≡ t.minutes
   pub seconds : b.timestamp.seconds ≡ t.seconds

@@ -1,23 +1,23 @@
 -- Printing settles at once (K14): the printed text of an accepted line is accepted, its reading has the line's field
 -- values and texts, and prints as that text again. All exceptions are seen in the line's bytes.
+use Rattle.field.specs.declared.Mnemonic.{Mnemonic}
 use Rattle.std.specs.Prelude.{◌+◌, ◌≡◌, ◌∷◌}
 use Rattle.text.specs.Prelude.{ℕ, code, Bool, true, false, List, [], take, Res, ok, no, pick, ◌=?◌}
-use Rattle.text.specs.Prelude.{◌∧?◌, ◌∨?◌, byte, cut}
+use Rattle.text.specs.Prelude.{◌∧?◌, ◌∨?◌, byte, cut, None, Option, Some}
 use Rattle.text.specs.declared.refusal.Refusal.TheVariants.{Syntax}
 use Rattle.text.specs.Spelt.{spelt}
 use Rattle.part.specs.Part.{bytes_of}
-use Rattle.part.specs.declared.{Part.Part, MaybePart.MaybePart}
+use Rattle.part.specs.declared.Part.{Part}
 use Rattle.manufacturer.specs.Maker.{letter_maker, triple_of}
-use Rattle.manufacturer.specs.declared.{Manufacturer.Manufacturer, MaybeTriple.MaybeTriple}
-use Rattle.print.specs.Print.{printed_res, Prints}
-use Rattle.print.specs.declared.printed.Printed.{Printed}
+use Rattle.manufacturer.specs.declared.Manufacturer.{Manufacturer}
+use Rattle.print.specs.Print.{Prints}
 use Rattle.table.specs.Table.{read_table, table_read}
-use Rattle.table.specs.declared.TableRead.{TableRead}
+use Rattle.table.specs.declared.Table.{Table}
 use Rattle.a_record.specs.ARecord.{a_of, letter_form, read_a}
 use Rattle.a_record.specs.declared.ARecord.{ARecord}
 use Rattle.c_record.specs.CRecord.{read_flight_of}
-use Rattle.c_record.specs.declared.{CRecordDeclaration.CRecordDeclaration, MaybeDate.MaybeDate}
-use Rattle.records.specs.Record.{read_line_of}
+use Rattle.c_record.specs.declared.CRecordDeclaration.{CRecordDeclaration}
+use Rattle.records.specs.Record.{table_left, read_line_of}
 use Rattle.records.specs.declared.Record.{Record}
 use Rattle.record_print.specs.Printed.{record_text, reprinted}
 use Rattle.promises.specs.Odd.{three_plus}
@@ -26,9 +26,9 @@ use Rattle.promises.specs.Back.{Parsed, Back}
 -- ---- the exceptions
 
 -- A maker that prints no triple.
-unfoldable pub prints_none : MaybeTriple → Bool
-prints_none MaybeTriple.Missing = true
-prints_none (MaybeTriple.Triple t) = false
+unfoldable pub prints_none : Option Mnemonic → Bool
+prints_none None = true
+prints_none (Some t) = false
 
 -- An A line in letter form with an unknown maker: no maker has its letter.
 unfoldable pub unknown_maker : List ℕ → Bool
@@ -50,9 +50,9 @@ plus_zeros s =
 unfoldable pub moved : ℕ → Part → Part
 moved n p = record { start = p.start + n; len = p.len }
 
-unfoldable pub moved_maybe : ℕ → MaybePart → MaybePart
-moved_maybe n MaybePart.Missing = MaybePart.Missing
-moved_maybe n (MaybePart.At p) = MaybePart.At (moved n p)
+unfoldable pub moved_maybe : ℕ → Option Part → Option Part
+moved_maybe n None = None
+moved_maybe n (Some p) = Some (moved n p)
 
 -- An A line in letter form prints with the three letters of its maker in the place of one, so its texts stand two
 -- columns on.
@@ -71,7 +71,7 @@ unfoldable pub declaration_again : List ℕ → CRecordDeclaration → CRecordDe
 declaration_again s r = record {
   date = r.date;
   time = r.time;
-  flight_date = pick (plus_zeros s) MaybeDate.Missing r.flight_date;
+  flight_date = pick (plus_zeros s) None r.flight_date;
   task_id = r.task_id;
   turnpoint_count = r.turnpoint_count;
   task_name = r.task_name;
@@ -98,9 +98,9 @@ read_again s (Record.Unrecognised p) = Record.Unrecognised p
 -- ---- its texts
 
 -- A text that may be missing.
-unfoldable pub maybe_one : MaybePart → List Part
-maybe_one MaybePart.Missing = []
-maybe_one (MaybePart.At p) = p ∷ []
+unfoldable pub maybe_one : Option Part → List Part
+maybe_one None = []
+maybe_one (Some p) = p ∷ []
 
 -- The texts of a record, as parts of its line.
 unfoldable pub texts_of : Record → List Part
@@ -136,13 +136,13 @@ pub record Settles (s : List ℕ) (r : Record) (x : List ℕ) : Type 0 where
   pub definitions : ((byte 0 s =? code "I") ∨? (byte 0 s =? code "J")) ≡ true →
       table_read (read_table x) ≡ table_read (read_table s)
   -- That reading prints, beside that text, as that text again.
-  pub same : Back x (record_text (read_again s r) (table_read (read_table x)).table x)
+  pub same : Back x (record_text (read_again s r) (table_left (read_table x)) x)
 
 -- `print_record` prints `record_text` of the record, its table and its line: what it wrote of an accepted line settles,
 -- but for an A line in letter form with an unknown maker.
 abbrev pub PrintingSettles : Type 0
-PrintingSettles = (s : List ℕ) (r : Record) (t : TableRead) → Parsed s r t → unknown_maker s ≡ false →
-    (b b' : List ℕ) (p : Printed) (n : ℕ) → Prints (record_text r t.table s) b b' p → printed_res p ≡ ok n →
+PrintingSettles = (s : List ℕ) (r : Record) (t : Table) → Parsed s r t → unknown_maker s ≡ false →
+    (b b' : List ℕ) (p : Res ℕ) (n : ℕ) → Prints (record_text r t s) b b' p → p ≡ ok n →
     Settles s r (take n b')
 
 -- ---- each exception is needed
@@ -156,6 +156,6 @@ pub record SettlesLate : Type 0 where
   -- and may print as another text again.
   pub again : reprinted (spelt "A123456") ≡ ok (spelt "A23456")
   -- A flight date of zeros with a plus is a date, and prints as none.
-  pub flight : (read_flight_of (spelt "+00000") ≡ ok (MaybeDate.On (record { day = 0; month = 0; year = 0 })))
+  pub flight : (read_flight_of (spelt "+00000") ≡ ok (Some (record { day = 0; month = 0; year = 0 })))
       × (reprinted (spelt "C230718092044+00000000204") ≡ ok (spelt "C230718092044000000000204"))
-      × (read_flight_of (spelt "000000") ≡ ok MaybeDate.Missing)
+      × (read_flight_of (spelt "000000") ≡ ok None)

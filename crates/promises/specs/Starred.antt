@@ -1,16 +1,14 @@
 -- The starred readings of document 01, "Readings at the edges", one after the other as one list.
 use Rattle.std.specs.Prelude.{◌≡◌}
-use Rattle.text.specs.Prelude.{code, ok, no, bind, read_int_of, signed}
+use Rattle.text.specs.Prelude.{code, ok, no, bind, read_int_of, signed, None, Some}
 use Rattle.part.specs.Part.{text_of}
 use Rattle.text.specs.declared.refusal.Refusal.TheVariants.{Syntax, UnreadableNumber, OutOfRange, BadExtension}
-use Rattle.part.specs.declared.MaybePart.{MaybePart}
 use Rattle.time.specs.Time.{read_time_of, seconds_of_lem}
 use Rattle.coord.specs.Coord.{read_latitude}
 use Rattle.raw_coord.specs.declared.Compass.TheVariants.{North}
 use Rattle.manufacturer.specs.declared.Manufacturer.TheVariants.{UnknownSingle}
 use Rattle.extension.specs.Value.{find_value}
 use Rattle.c_record.specs.CRecord.{read_declaration}
-use Rattle.c_record.specs.declared.MaybeDate.TheVariants.{Missing, On}
 use Rattle.h_record.specs.declared.DataSource.TheVariants.{FVU}
 use Rattle.records.specs.Record.{read_line_of}
 use Rattle.records.specs.declared.Record.{Record}
@@ -26,7 +24,7 @@ pub record Starred : Type 0 where
       read_line_of (spelt "HFFTY:") ≡ ok (Record.H (record {
         data_source = FVU;
         mnemonic = record { start = 2; len = 3 };
-        friendly_name = MaybePart.At (record { start = 5; len = 0 });
+        friendly_name = Some (record { start = 5; len = 0 });
         «data» = record { start = 6; len = 0 };
       }))
   -- `AC00069` prints `ACAM00069`. `AX12345` prints `A12345`, which reads as 1. `AX123456` prints `A123456`, which reads
@@ -40,7 +38,7 @@ pub record Starred : Type 0 where
       ≡ ok (Record.A (record {
         manufacturer = UnknownSingle (code "1");
         unique_id = record { start = 2; len = 5 };
-        id_extension = MaybePart.Missing;
+        id_extension = None;
       }))
   -- Time 246060 is accepted, 90060 seconds; 250000 is 4.
   pub time_246060 : read_time_of (spelt "246060") ≡ ok (record { hours = 24; minutes = 60; seconds = 60 })
@@ -53,10 +51,10 @@ pub record Starred : Type 0 where
   pub latitude_9065536_n : read_latitude (spelt "9065536N") ≡ no (UnreadableNumber 2)
   -- `C230718092044+0+0+0000204` has a flight date, and prints `C230718092044000000000204`, which has none.
   pub flight_of_pluses : bind (read_declaration (spelt "C230718092044+0+0+0000204")) (λ r. ok r.flight_date)
-      ≡ ok (On (record { day = 0; month = 0; year = 0 }))
+      ≡ ok (Some (record { day = 0; month = 0; year = 0 }))
   pub pluses_printed : reprinted (spelt "C230718092044+0+0+0000204") ≡ ok (spelt "C230718092044000000000204")
   pub flight_of_zeros : bind (read_declaration (spelt "C230718092044000000000204")) (λ r. ok r.flight_date)
-      ≡ ok Missing
+      ≡ ok None
   -- Heights: `-0000` prints `00000`.
   pub height_minus_0000 : bind (read_int_of 32767 (spelt "-0000")) (λ z. ok (signed 5 z)) ≡ ok (spelt "00000")
   -- `I013836FXA` 5.

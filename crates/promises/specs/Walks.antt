@@ -10,10 +10,10 @@ use Rattle.igc_log.specs.Log.{readings}
 use Rattle.held.specs.Tables.{no_tables}
 use Rattle.report.specs.Report.{report_of, figures_in, report_made}
 use Rattle.cursor.specs.Cursor.{start}
-use Rattle.walk.specs.Walk.{fresh, reading_of, step_of, is_done}
+use Rattle.walk.specs.Walk.{fresh, step_of, is_done}
 use Rattle.walk.specs.Readings.{reader, walked, after_steps, at_end_of}
 use Rattle.walk.specs.declared.Walk.{Walk}
-use Rattle.walk.specs.declared.Taken.TheVariants.{Line, Done}
+use Rattle.text.specs.Prelude.{Some, None}
 use Rattle.reader.specs.Reader.{reader_at, handed_out}
 use Rattle.watch_text.specs.Watch.{WatchReading, watcher, risen}
 use Rattle.listing_text.specs.Listing.{listed, listing_text_of}
@@ -27,11 +27,11 @@ pub record Walks : Type 0 where
       (after_steps k log fresh).report ≡ report_made (report_of (take k (readings reader log)))
   -- Any walk, built by hand too, is done at or past the log's end, at the largest line number, and where one of the
   -- report's fifteen counts is at its largest (`is_done`); that changes nothing.
-  pub done : (log : List ℕ) (w : Walk) → is_done log w ≡ true → step_of log w ≡ record { walk = w; taken = Done }
+  pub done : (log : List ℕ) (w : Walk) → is_done log w ≡ true → step_of log w ≡ record { walk = w; taken = None }
   -- Everywhere else it reads the line at its place.
   pub reads : (log : List ℕ) (w : Walk) → is_done log w ≡ false →
       let part = (cut_at w.at.place log).line in
-      (step_of log w).taken ≡ Line part (reading_of (read_line_of (bytes_of part log)))
+      (step_of log w).taken ≡ Some (part, read_line_of (bytes_of part log))
   -- The end of a walk is done, and is where any number of steps leads that is at least that of the log's bytes.
   pub end_done : (log : List ℕ) (w : Walk) → is_done log (at_end_of log w) ≡ true
   pub end_reached : (log : List ℕ) (w : Walk) (k : ℕ) → length log ≤ k → after_steps k log w ≡ at_end_of log w

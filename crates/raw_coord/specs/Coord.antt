@@ -3,8 +3,7 @@ use Rattle.std.specs.Prelude.{◌+◌, ◌∷◌, ◌++◌}
 use Rattle.text.specs.Prelude.{ℕ, code, Bool, List, [], Res, ok, no, bind, guard, pick, ◌≤?◌, ◌=?◌}
 use Rattle.text.specs.Prelude.{◌∧?◌, ◌∨?◌, byte, columns, read_nat_of, padded}
 use Rattle.text.specs.declared.refusal.Refusal.TheVariants.{Syntax, OutOfRange}
-use Rattle.raw_coord.specs.declared.{Compass.Compass, CompassRead.CompassRead, RawCoord.RawCoord}
-use Rattle.raw_coord.specs.declared.CoordRead.{CoordRead}
+use Rattle.raw_coord.specs.declared.{Compass.Compass, RawCoord.RawCoord}
 use Rattle.raw_coord.specs.declared.Compass.TheVariants.{North, South, East, West}
 
 -- N, S, E, W.
@@ -51,13 +50,3 @@ unfoldable pub coord_book : ℕ → RawCoord → Bool
 coord_book limit c =
     pick (c.degrees =? limit) (c.minute_thousandths =? 0)
     ((c.degrees ≤? limit) ∧? (c.minute_thousandths ≤? 59999))
-
--- ---- the answers of the code
-
-abbrev pub compass_res : CompassRead → Res Compass
-compass_res (CompassRead.Ok v) = ok v
-compass_res (CompassRead.Refused n) = no n
-
-abbrev pub coord_res : CoordRead → Res RawCoord
-coord_res (CoordRead.Ok v) = ok v
-coord_res (CoordRead.Refused n) = no n

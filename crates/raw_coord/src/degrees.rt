@@ -11,12 +11,9 @@ impl RawCoord {
         ensures { result ≡ degrees_of binary32 self }
     {
         let in_f32 = self.degrees as f32 + self.minute_thousandths as f32 / 60000.0;
-        let sign = self.sign;
-        match sign {
-            Compass::North => in_f32,
-            Compass::East => in_f32,
-            Compass::South => -in_f32,
-            Compass::West => -in_f32,
+        match self.sign {
+            Compass::North | Compass::East => in_f32,
+            Compass::South | Compass::West => -in_f32,
         }
     }
 
@@ -25,12 +22,9 @@ impl RawCoord {
         ensures { result ≡ degrees_of binary64 self }
     {
         let in_f64 = self.degrees as f64 + self.minute_thousandths as f64 / 60000.0;
-        let sign = self.sign;
-        match sign {
-            Compass::North => in_f64,
-            Compass::East => in_f64,
-            Compass::South => -in_f64,
-            Compass::West => -in_f64,
+        match self.sign {
+            Compass::North | Compass::East => in_f64,
+            Compass::South | Compass::West => -in_f64,
         }
     }
 }

@@ -1,7 +1,7 @@
 -- A reader of a lent log, and what it shows at its place.
 use Rattle.std.specs.Borrow.{Bor}
 use Rattle.std.specs.Prelude.{◌∷◌}
-use Rattle.text.specs.Prelude.{ℕ, zero, suc, List, []}
+use Rattle.text.specs.Prelude.{ℕ, zero, suc, List, [], Option, Some, None}
 use Rattle.part.specs.Part.{bytes_of, find_part, shown}
 use Rattle.part.specs.declared.Part.{Part}
 use Rattle.igc_log.specs.Line.{cut_at}
@@ -10,8 +10,8 @@ use Rattle.held.specs.Tables.{tables_after}
 use Rattle.held.specs.declared.tables.Tables.{Tables}
 use Rattle.cursor.specs.Cursor.{next_of}
 use Rattle.walk.specs.Readings.{LineReading}
-use Rattle.cursor.specs.declared.{Cursor.Cursor, Next.Next}
-use Rattle.cursor.specs.declared.Next.TheVariants.{Line, Done}
+use Rattle.cursor.specs.declared.Cursor.{Cursor}
+use Rattle.igc_log.specs.declared.Cut.{Cut}
 use Rattle.reader.specs.declared.LogReader.{LogReader}
 
 -- A reader of the lent log at a cursor of the walk.
@@ -33,9 +33,9 @@ text_at place s = bytes_of (part_at place s) s
 -- ---- what is handed out
 
 -- The reading of the line that `next_line` found, in front of what is read from the cursor after it.
-unfoldable pub handed_by : List ℕ → Tables → ℕ → Next → (Cursor → List LineReading) → List LineReading
-handed_by s h place Done later = []
-handed_by s h place (Line cut after) later =
+unfoldable pub handed_by : List ℕ → Tables → ℕ → Option (Cut × Cursor) → (Cursor → List LineReading) → List LineReading
+handed_by s h place None later = []
+handed_by s h place (Some (cut, after)) later =
     record {
       number = after.number;
       place = cut.line.start;

@@ -7,9 +7,9 @@ ghost use Rattle.held.specs.Tables.{tables_after};
 ghost use Rattle.cursor.specs.Cursor.{start, next_of};
 ghost use Rattle.reader.specs.Reader.{reader_at, cursor_of, part_at, text_at};
 
-use cursor::{Cursor, Next};
+use cursor::Cursor;
 use held::tables::Tables;
-use igc_log::line_at;
+use igc_log::{Cut, line_at};
 
 #[derive(Clone, Copy)]
 pub struct LogReader<'a> {
@@ -21,7 +21,7 @@ pub struct LogReader<'a> {
 // ---- the work, over plain parameters
 
 // The line at a place, and the cursor after it.
-pub fn next_at(log: &[u8], place: usize, number: u64) -> Next
+pub fn next_at(log: &[u8], place: usize, number: u64) -> Option<(Cut, Cursor)>
     ensures { result ≡ next_of log.now (record { place = place; number = number }) }
 {
     let at = Cursor { place, number };
@@ -39,6 +39,7 @@ pub fn tables_at(log: &[u8], place: usize, held: Tables) -> Tables
 // ---- the reader
 
 // At the log's start, with no line read.
+#[tactic(auto, unfolding(cursor::specs::Cursor::start))]
 pub fn open<'a>(log: &'a [u8]) -> LogReader<'a>
     ensures { result ≡ reader_at log.entry start }
 {
@@ -61,7 +62,7 @@ pub fn moved<'a>(r: LogReader<'a>, at: Cursor) -> LogReader<'a>
 }
 
 // Reads the line at the place.
-pub fn next_line<'a>(r: LogReader<'a>) -> Next
+pub fn next_line<'a>(r: LogReader<'a>) -> Option<(Cut, Cursor)>
     ensures { result ≡ next_of r.entry.log.now (cursor_of r.entry) }
 {
     next_at(r.log, r.place, r.number)

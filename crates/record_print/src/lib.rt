@@ -5,13 +5,20 @@ ghost use Rattle.put.specs.Put.{Wrote};
 ghost use Rattle.print.specs.Print.{Prints};
 ghost use Rattle.record_print.specs.Printed.{record_text, record_piece};
 
-use print::printed::{Printed, print_part};
+use print::printed::{LinePiece, print_part};
 use put::put_part;
 use records::Record;
 use table::Table;
+use text::refusal::Refusal;
 
 // Prints a record. The table is that of an I or a J line; other kinds do not look at it.
-pub fn print_record(rec: Record, table: Table, line: &[u8], buf: &mut [u8]) -> Printed
+#[tactic(auto, unfolding(crate::specs::Printed::record_text))]
+pub fn print_record(
+    rec: Record,
+    table: Table,
+    line: &[u8],
+    buf: &mut [u8],
+) -> Result<usize, Refusal>
     ensures { Prints (record_text rec table line.now) buf.old buf.new result }
 {
     match rec {
@@ -34,9 +41,9 @@ pub fn print_record(rec: Record, table: Table, line: &[u8], buf: &mut [u8]) -> P
 
 // A record's text as a piece of a larger one, from a place on: bytes that are too short cut it, and a part outside the
 // line is left out. `print_record` is the printer.
+#[tactic(auto, unfolding(crate::specs::Printed::record_piece))]
 pub fn put_record(buf: &mut [u8], at: usize, rec: Record, table: Table, line: &[u8]) -> usize
-    ensures { Wrote buf.old at (record_piece rec table line.now)
-        buf.new result }
+    ensures { Wrote buf.old at (record_piece rec table line.now) buf.new result }
 {
     match rec {
         Record::A(a) => a.put_piece(buf, at, line),

@@ -1,3 +1,1 @@
-pub mod Tables
-pub mod Answers
 pub mod Numbers

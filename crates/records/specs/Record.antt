@@ -1,9 +1,12 @@
 -- Lines of every kind: an empty line is 1, then the first byte chooses.
+use Rattle.b_record.specs.declared.BRecord.{BRecord}
+use Rattle.text.specs.Prelude.{None, Option, Some}
 use Rattle.text.specs.Prelude.{ℕ, code, Bool, true, List, [], length, Res, ok, no, bind, guard, pick, number_of, ◌≤?◌}
 use Rattle.text.specs.Prelude.{◌=?◌, byte}
 use Rattle.text.specs.declared.refusal.Refusal.TheVariants.{Syntax}
 use Rattle.part.specs.declared.Part.{Part}
-use Rattle.table.specs.Table.{table_of, read_table, table_read}
+use Rattle.extension.specs.declared.Extension.{Extension}
+use Rattle.table.specs.Table.{table_of, read_table}
 use Rattle.table.specs.declared.Table.{Table}
 use Rattle.a_record.specs.ARecord.{read_a}
 use Rattle.b_record.specs.BRecord.{read_b, b_book}
@@ -16,7 +19,7 @@ use Rattle.g_record.specs.GRecord.{read_g}
 use Rattle.h_record.specs.HRecord.{read_h}
 use Rattle.k_record.specs.KRecord.{read_k, k_book}
 use Rattle.l_record.specs.LRecord.{read_l}
-use Rattle.records.specs.declared.{Record.Record, MaybeFix.MaybeFix, Reading.Reading}
+use Rattle.records.specs.declared.{Record.Record}
 
 -- The kinds of line.
 pub data Kind : Type 0 where
@@ -83,10 +86,15 @@ read_kind Other s = ok (Record.Unrecognised (whole s))
 unfoldable pub read_line_of : List ℕ → Res Record
 read_line_of s = guard (1 ≤? length s) Syntax (read_kind (kind_of (byte 0 s)) s)
 
+-- The table that was read; after a refusal an empty one.
+unfoldable pub table_left : Res (List Extension) → Table
+table_left (ok ds) = table_of ds
+table_left (no n) = table_of []
+
 -- The table of an I or a J line itself; a record of another kind has an empty one, at which nobody looks.
 unfoldable pub record_table : Record → List ℕ → Table
-record_table Record.I s = (table_read (read_table s)).table
-record_table Record.J s = (table_read (read_table s)).table
+record_table Record.I s = table_left (read_table s)
+record_table Record.J s = table_left (read_table s)
 record_table (Record.A r) s = table_of []
 record_table (Record.B r) s = table_of []
 record_table (Record.CDeclaration r) s = table_of []
@@ -101,26 +109,26 @@ record_table (Record.L r) s = table_of []
 record_table (Record.Unrecognised p) s = table_of []
 
 -- Whether a record is a fix, and which.
-unfoldable pub record_fix : Record → MaybeFix
-record_fix (Record.B r) = MaybeFix.Fix r
-record_fix (Record.A r) = MaybeFix.Missing
-record_fix (Record.CDeclaration r) = MaybeFix.Missing
-record_fix (Record.CTurnpoint r) = MaybeFix.Missing
-record_fix (Record.D r) = MaybeFix.Missing
-record_fix (Record.E r) = MaybeFix.Missing
-record_fix (Record.F r) = MaybeFix.Missing
-record_fix (Record.G r) = MaybeFix.Missing
-record_fix (Record.H r) = MaybeFix.Missing
-record_fix Record.I = MaybeFix.Missing
-record_fix Record.J = MaybeFix.Missing
-record_fix (Record.K r) = MaybeFix.Missing
-record_fix (Record.L r) = MaybeFix.Missing
-record_fix (Record.Unrecognised p) = MaybeFix.Missing
+unfoldable pub record_fix : Record → Option BRecord
+record_fix (Record.B r) = Some r
+record_fix (Record.A r) = None
+record_fix (Record.CDeclaration r) = None
+record_fix (Record.CTurnpoint r) = None
+record_fix (Record.D r) = None
+record_fix (Record.E r) = None
+record_fix (Record.F r) = None
+record_fix (Record.G r) = None
+record_fix (Record.H r) = None
+record_fix Record.I = None
+record_fix Record.J = None
+record_fix (Record.K r) = None
+record_fix (Record.L r) = None
+record_fix (Record.Unrecognised p) = None
 
 -- The fix of an accepted B line. Products that care for fixes alone ask here.
-unfoldable pub answer_fix : Res Record → MaybeFix
+unfoldable pub answer_fix : Res Record → Option BRecord
 answer_fix (ok r) = record_fix r
-answer_fix (no n) = MaybeFix.Missing
+answer_fix (no n) = None
 
 -- By the book: times, dates and positions are; other kinds say yes.
 unfoldable pub record_book : Record → Bool
@@ -160,14 +168,3 @@ accepted_as (Record.Unrecognised p) = 12
 unfoldable pub answered : Res Record → ℕ
 answered (ok r) = accepted_as r
 answered (no n) = number_of n
-
--- The paper's number of a reading.
-unfoldable pub answer_of : Reading → ℕ
-answer_of (Reading.Accepted r) = accepted_as r
-answer_of (Reading.Refused n) = number_of n
-
--- ---- the answers of the code
-
-abbrev pub reading_res : Reading → Res Record
-reading_res (Reading.Accepted r) = ok r
-reading_res (Reading.Refused n) = no n

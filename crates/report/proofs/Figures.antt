@@ -1,14 +1,15 @@
 -- Figures as one: in any grouping the same, and with those of nothing unchanged.
-use Rattle.text.specs.Prelude.{◌≡◌, Bool, true, false, length, ℤ, pos, negsuc}
-use Rattle.text.proofs.Prelude.{arith, refl, no≤, is≤, isnt≤, never}
+use Rattle.report.specs.Peak.{GpsPeak, PressurePeak}
+use Rattle.text.specs.Prelude.{ℕ, ◌≡◌, Bool, true, false, length, ℤ, pos, negsuc}
+use Rattle.text.proofs.Prelude.{arith, refl, sym, ◌∙◌, yes≤, no≤, is≤, isnt≤, never, by_test}
 use native.Mathlib.Nat.{zero-add, add-zero, add_assoc}
+use lib.Dec.{ltb}
 use lib.Signed.{lt_z}
 use borrow.Author.Tests.{ltb-true, ltb-false, le-ltb}
 use Rattle.report.specs.Range.{Order}
 use Rattle.report.specs.Counts.{numbers, by_number}
 use Rattle.report.specs.Figures.{Figures, earlier, empty, both}
 use Rattle.report.specs.Report.{below_pressure, below_gps}
-use Rattle.report.specs.declared.{pressure.PressurePeak.PressurePeak, gps.GpsPeak.GpsPeak}
 use Rattle.report.proofs.Ranges.{joined_assoc, joined_none, none_joined}
 use Rattle.report.proofs.Counts.{added_assoc, zeros_added, added_zeros}
 
@@ -43,6 +44,14 @@ pressure_order = heights_order (λ (p : PressurePeak). p.height.0)
 pub gps_order : Order below_gps
 unfolding below_gps
 gps_order = heights_order (λ (p : GpsPeak). p.height.0)
+
+-- a test of the code's for less, and the definition's
+pub less_earlier : (a b : ℕ) → ltb a b ≡ earlier a b
+unfolding earlier
+less_earlier a b =
+    by_test (ltb a b)
+    (λ e. e ∙ sym (yes≤ (omega (arith, ltb-true a b e))))
+    (λ e. e ∙ sym (no≤ (omega (arith, ltb-false a b e))))
 
 pub times_order : Order earlier
 unfolding earlier

@@ -1,14 +1,16 @@
 -- A count at its largest.
+use Rattle.report.specs.Peak.{GpsPeak, PressurePeak}
+use Rattle.b_record.specs.declared.BRecord.{BRecord}
+use Rattle.text.specs.Prelude.{None, Option, Some}
 use Rattle.text.specs.Prelude.{ℕ, zero, suc, ◌+◌, ◌≤◌, ◌<◌, ◌≡◌, Bool, true, false, List, [], ◌∷◌, length, drop, get_or}
 use Rattle.text.specs.Prelude.{set, Res, pick, ◌≤?◌, ◌∨?◌, largest}
 use native.Mathlib.Numerals.{add-one}
 use Rattle.text.proofs.Prelude.{arith, refl, sym, drop-cons, yes≤, no≤, isnt≤, neither, and, first}
 use Rattle.records.specs.Record.{answered, answer_fix}
-use Rattle.records.specs.declared.{Record.Record, MaybeFix.MaybeFix}
+use Rattle.records.specs.declared.{Record.Record}
 use Rattle.report.specs.Counts.{one_full_of}
 use Rattle.report.specs.Figures.{Figures, both}
 use Rattle.report.specs.Report.{fixes_in, below_pressure, below_gps, one_of, room_for, taken_by, is_full_of}
-use Rattle.report.specs.declared.{pressure.PressurePeak.PressurePeak, gps.GpsPeak.GpsPeak}
 
 -- ---- one of some counts
 
@@ -57,10 +59,10 @@ full_set (n ∷ ns) (suc i) c h e =
 -- ---- a report
 
 -- a reading is one fix at most
-pub one_fix : (m : MaybeFix) → fixes_in m ≤ 1
+pub one_fix : (m : (Option BRecord)) → fixes_in m ≤ 1
 unfolding fixes_in
-one_fix (MaybeFix.Fix b) = omega arith
-one_fix MaybeFix.Missing = omega arith
+one_fix (Some b) = omega arith
+one_fix None = omega arith
 
 module _ (f : Figures PressurePeak GpsPeak) (room : is_full_of f ≡ false) where
   -- where no count is at its largest each is below it

@@ -1,4 +1,5 @@
 -- The report of readings in parts, and reading by reading.
+use Rattle.report.specs.Peak.{GpsPeak, PressurePeak}
 use Rattle.text.specs.Prelude.{ℕ, zero, suc, ◌+◌, ◌≤◌, ◌<◌, ◌≡◌, Bool, true, false, List, [], ◌∷◌, ◌++◌, length, take}
 use Rattle.text.specs.Prelude.{get_or, Res, pick, ◌=?◌, ◌∨?◌, largest}
 use Rattle.text.proofs.Prelude.{arith, refl, sym, ◌∙◌, no≤}
@@ -14,7 +15,6 @@ use Rattle.report.specs.Figures.{Figures, empty, both}
 use Rattle.report.specs.Report.{of_fix_of, pressure_at, gps_at, time_at, below_pressure, below_gps, answered_with}
 use Rattle.report.specs.Report.{fixes_of, shown, report_of, one_of, taken_by, report_step, is_full_of}
 use Rattle.report.specs.Laws.{Agrees}
-use Rattle.report.specs.declared.{pressure.PressurePeak.PressurePeak, gps.GpsPeak.GpsPeak}
 use Rattle.report.proofs.Ranges.{range_append, ordered_range}
 use Rattle.report.proofs.Counts.{length_from, get_d_from_le, added_from, get_d_added, length_added, summed_added}
 use Rattle.report.proofs.Counts.{one_in_all}

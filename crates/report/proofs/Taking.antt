@@ -1,17 +1,18 @@
 -- What the code makes of one reading more is what the step makes of it.
+use Rattle.report.specs.Peak.{GpsPeak, PressurePeak}
+use Rattle.text.specs.Prelude.{None, Some}
 use Rattle.text.specs.Prelude.{ℕ, ◌+◌, ◌≤◌, ◌<◌, ◌≡◌, List, length, get_or, set, Res, largest}
 use Rattle.text.proofs.Prelude.{arith, refl, sym, first, second, yes≤, no≤, holds, fails, and}
 use native.Mathlib.Nat.{add-zero}
 use Rattle.time.specs.Time.{seconds_of_lem}
 use Rattle.b_record.specs.declared.{BRecord.BRecord, FixValid.FixValid}
 use Rattle.records.specs.Record.{answered, answer_fix}
-use Rattle.records.specs.declared.{Record.Record, MaybeFix.MaybeFix}
+use Rattle.records.specs.declared.{Record.Record}
 use Rattle.report.specs.Range.{Range, between, joined}
 use Rattle.report.specs.Counts.{numbers, by_number, added}
 use Rattle.report.specs.Figures.{Figures, earlier, both}
 use Rattle.report.specs.Report.{fixes_in, of_fix_of, marked, pressure_at, gps_at, time_at, below_pressure, below_gps}
 use Rattle.report.specs.Report.{one_of, room_for, taken_by, with_fix_of}
-use Rattle.report.specs.declared.{pressure.PressurePeak.PressurePeak, gps.GpsPeak.GpsPeak}
 use Rattle.report.proofs.Ranges.{joined_none, range_none, range_one}
 use Rattle.report.proofs.Counts.{raised}
 
@@ -111,7 +112,7 @@ module _ (f : Figures PressurePeak GpsPeak) (p : ℕ) (m : Res Record) where
   answer_full is l h = second _ (holds (yes≤ (omega arith)) (fails _ (no≤ (omega arith)))) refl
 
   module _ {answers : List ℕ} (counts : Counted f m answers) where
-    pub fixes_full : {b : BRecord} → MaybeFix.Fix b ≡ answer_fix m → largest ≤ f.fixes → f ≡ taken_by f p m
+    pub fixes_full : {b : BRecord} → Some b ≡ answer_fix m → largest ≤ f.fixes → f ≡ taken_by f p m
     unfolding taken_by room_for fixes_in
     fixes_full fix h =
         second _ (holds (yes≤ (omega arith)) (holds (yes≤ (omega arith)) (rw (sym fix) (no≤ (omega arith))))) refl
@@ -122,12 +123,12 @@ module _ (f : Figures PressurePeak GpsPeak) (p : ℕ) (m : Res Record) where
     unfolding taken_by room_for
     taken h e = first _ (and (yes≤ (omega arith)) (and (yes≤ (omega arith)) (yes≤ h))) e
 
-    pub taken_fix : {b : BRecord} → MaybeFix.Fix b ≡ answer_fix m → f.fixes < largest →
+    pub taken_fix : {b : BRecord} → Some b ≡ answer_fix m → f.fixes < largest →
         with_fix_of (counting f answers (f.fixes + 1)) p b ≡ taken_by f p m
     unfolding both one_of with_fix_of of_fix_of fixes_in
     taken_fix fix h = taken (rw (sym fix) (omega arith)) (rw (counts.one_more, sym fix))
 
-    pub taken_other : MaybeFix.Missing ≡ answer_fix m → f.fixes ≤ largest →
+    pub taken_other : None ≡ answer_fix m → f.fixes ≤ largest →
         counting f answers f.fixes ≡ taken_by f p m
     unfolding both one_of of_fix_of fixes_in
     taken_other fix h = taken (rw (sym fix) (omega arith)) (rw (

@@ -1,31 +1,30 @@
 -- The report of a log: each figure by itself over the readings of a walk, and a reading at a time.
 use Rattle.std.specs.Prelude.{◌+◌, ◌∷◌, ◌++◌}
-use Rattle.text.specs.Prelude.{ℕ, Bool, List, [], length, get_or, Res, pick, ◌≤?◌, ◌=?◌, ◌∧?◌, ◌∨?◌}
+use Rattle.text.specs.Prelude.{ℕ, Bool, List, [], Option, Some, None, length, get_or, Res, pick, ◌≤?◌, ◌=?◌, ◌∧?◌, ◌∨?◌}
 use Rattle.text.specs.Prelude.{largest}
 use Rattle.std.specs.Int.Signed.{lt_z}
 use Rattle.time.specs.Time.{seconds_of_lem}
 use Rattle.b_record.specs.declared.{BRecord.BRecord, FixValid.FixValid}
 use Rattle.records.specs.Record.{answered, answer_fix}
-use Rattle.records.specs.declared.{Record.Record, MaybeFix.MaybeFix}
+use Rattle.records.specs.declared.{Record.Record}
 use Rattle.igc_log.specs.Log.{LineRead}
-use Rattle.report.specs.Range.{Range, none, between, joined, range_of}
+use Rattle.report.specs.Range.{joined, range_of}
 use Rattle.report.specs.Counts.{by_number, one_full_of}
 use Rattle.report.specs.Figures.{Figures, earlier, both}
-use Rattle.report.specs.declared.{pressure.PressurePeak.PressurePeak, pressure.PressureRange.PressureRange}
-use Rattle.report.specs.declared.{gps.GpsPeak.GpsPeak, gps.GpsRange.GpsRange, times.TimeRange.TimeRange}
+use Rattle.report.specs.Peak.{PressurePeak, GpsPeak, range_in, made}
 use Rattle.report.specs.declared.Report.{Report}
 
 -- ---- what one reading shows
 
 -- An accepted B line is one fix, and any other line none.
-unfoldable pub fixes_in : MaybeFix → ℕ
-fixes_in (MaybeFix.Fix b) = 1
-fixes_in MaybeFix.Missing = 0
+unfoldable pub fixes_in : Option BRecord → ℕ
+fixes_in (Some b) = 1
+fixes_in None = 0
 
 -- What f shows of a fix; of none nothing.
-unfoldable pub of_fix_of : {X : Type 0} → (BRecord → List X) → MaybeFix → List X
-of_fix_of f (MaybeFix.Fix b) = f b
-of_fix_of f MaybeFix.Missing = []
+unfoldable pub of_fix_of : {X : Type 0} → (BRecord → List X) → Option BRecord → List X
+of_fix_of f (Some b) = f b
+of_fix_of f None = []
 
 -- x of a fix marked A; a fix marked V shows no height.
 unfoldable pub marked : {X : Type 0} → FixValid → X → List X
@@ -127,32 +126,15 @@ is_full_of f = (largest ≤? f.lines) ∨? (largest ≤? f.fixes) ∨? one_full_
 
 -- ---- what the code holds
 
-abbrev pub pressure_in : PressureRange → Range PressurePeak
-pressure_in PressureRange.Missing = none
-pressure_in (PressureRange.Between high low) = between high low
-
-abbrev pub gps_in : GpsRange → Range GpsPeak
-gps_in GpsRange.Missing = none
-gps_in (GpsRange.Between high low) = between high low
-
-abbrev pub times_in : TimeRange → Range ℕ
-times_in TimeRange.Missing = none
-times_in (TimeRange.Between latest earliest) = between latest earliest
-
 abbrev pub figures_in : Report → Figures PressurePeak GpsPeak
 figures_in r = record {
   lines = r.lines;
   answers = r.answers;
   fixes = r.fixes;
-  pressure = pressure_in r.pressure;
-  gps = gps_in r.gps;
-  times = times_in r.times;
+  pressure = range_in r.pressure;
+  gps = range_in r.gps;
+  times = range_in r.times;
 }
-
--- What the code holds that is viewed as a range.
-abbrev pub made : {P E : Type 0} → E → (P → P → E) → Range P → E
-made missing f none = missing
-made missing f (between high low) = f high low
 
 -- What the code holds that is viewed as these figures.
 abbrev pub report_made : Figures PressurePeak GpsPeak → Report
@@ -160,9 +142,9 @@ report_made f = record {
   answers = f.answers;
   lines = f.lines;
   fixes = f.fixes;
-  pressure = made PressureRange.Missing PressureRange.Between f.pressure;
-  gps = made GpsRange.Missing GpsRange.Between f.gps;
-  times = made TimeRange.Missing TimeRange.Between f.times;
+  pressure = made f.pressure;
+  gps = made f.gps;
+  times = made f.times;
 }
 
 -- A report over one reading more, answered m at the place p.

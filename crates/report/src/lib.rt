@@ -1,21 +1,18 @@
 // The report of a log: its lines by answer number, its accepted B lines, heights of those marked A, times of them all.
 #![tactic(auto)]
 
-pub mod gps;
-pub mod pressure;
-pub mod times;
+pub mod peak;
+pub mod range;
 
 ghost use Rattle.std.specs.Prelude.{◌≡◌, get_or, set};
-ghost use Rattle.records.specs.Record.{reading_res};
 ghost use Rattle.report.specs.Counts.{one_full_of};
 ghost use Rattle.report.specs.Figures.{empty};
 ghost use Rattle.report.specs.Report.{taken_by, with_fix_of, is_full_of, figures_in};
 
-use crate::gps::{GpsPeak, GpsRange};
-use crate::pressure::{PressurePeak, PressureRange};
-use crate::times::TimeRange;
+use crate::peak::{GpsRange, Peak, PressureRange, TimeRange};
+use crate::range::after;
 use b_record::{BRecord, FixValid};
-use records::{MaybeFix, Reading};
+use records::{Reading, answer_number, fix_in};
 
 #[derive(Clone, Copy)]
 pub struct Report {
@@ -53,12 +50,10 @@ fn with_count(answers: [u64; 13], number: usize, count: u64) -> [u64; 13]
 fn one_full(answers: [u64; 13]) -> bool
     ensures { result ≡ one_full_of answers }
 {
-    let mut i: usize = 0;
-    while i < 13 {
-        if 0xffff_ffff_ffff_ffff <= answers[i] {
+    for count in &answers {
+        if *count == u64::MAX {
             return true;
         }
-        i += 1;
     }
     false
 }
@@ -72,9 +67,9 @@ impl Report {
             answers: [0u64; 13],
             lines: 0,
             fixes: 0,
-            pressure: PressureRange::Missing,
-            gps: GpsRange::Missing,
-            times: TimeRange::Missing,
+            pressure: None,
+            gps: None,
+            times: None,
         }
     }
 
@@ -82,90 +77,72 @@ impl Report {
     pub fn is_full(self) -> bool
         ensures { result ≡ is_full_of (figures_in self) }
     {
-        let answers = self.answers;
-        if 0xffff_ffff_ffff_ffff <= self.lines {
+        if self.lines == u64::MAX {
             return true;
         }
-        if 0xffff_ffff_ffff_ffff <= self.fixes {
+        if self.fixes == u64::MAX {
             return true;
         }
-        one_full(answers)
+        one_full(self.answers)
     }
 
-    // With the heights and the time of a fix more; one marked V shows no height.
+    // With the heights and the time of a fix more; one marked V shows no height, but it has a time.
     fn with_fix(self, place: u64, fix: BRecord) -> Report
         ensures { figures_in result ≡ with_fix_of (figures_in self) place fix }
     {
-        let answers = self.answers;
-        let by_pressure = self.pressure;
-        let by_gps = self.gps;
-        let times = self.times;
-        let time = fix.timestamp;
-        let valid = fix.fix_valid;
-        let with_time = times.after(time.seconds_since_midnight());
-        let with_pressure = by_pressure.after(PressurePeak::of_fix(place, fix));
-        let with_gps = by_gps.after(GpsPeak::of_fix(place, fix));
-        match valid {
+        let pressure = after(
+            self.pressure,
+            Peak {
+                place,
+                height: fix.pressure_alt,
+            },
+        );
+        let gps = after(
+            self.gps,
+            Peak {
+                place,
+                height: fix.gps_alt,
+            },
+        );
+        let times = after(self.times, fix.timestamp.seconds_since_midnight());
+        match fix.fix_valid {
             FixValid::Valid => Report {
-                answers,
-                lines: self.lines,
-                fixes: self.fixes,
-                pressure: with_pressure,
-                gps: with_gps,
-                times: with_time,
+                pressure,
+                gps,
+                times,
+                ..self
             },
-            FixValid::NavWarning => Report {
-                answers,
-                lines: self.lines,
-                fixes: self.fixes,
-                pressure: by_pressure,
-                gps: by_gps,
-                times: with_time, // a fix marked V has a time
-            },
+            FixValid::NavWarning => Report { times, ..self },
         }
     }
 
     // Over one reading more, of the line at a place. Where a count is at its largest, the figures stay.
     pub fn after(self, place: u64, reading: Reading) -> Report
-        ensures { figures_in result ≡ taken_by (figures_in self) place (reading_res reading) }
+        ensures { figures_in result ≡ taken_by (figures_in self) place reading }
     {
-        let pressure = self.pressure;
-        let gps = self.gps;
-        let times = self.times;
-        let before = self.answers;
-        let number = reading.number() as usize;
-        let count = count_of(before, number);
-        if 0xffff_ffff_ffff_ffff <= self.lines {
+        let number = answer_number(reading) as usize;
+        let count = count_of(self.answers, number);
+        if self.lines == u64::MAX {
             return self;
         }
-        if 0xffff_ffff_ffff_ffff <= count {
+        if count == u64::MAX {
             return self;
         }
-        let lines = self.lines + 1;
-        let answers = with_count(before, number, count + 1);
-        match reading.fix() {
-            MaybeFix::Missing => Report {
-                answers,
-                lines,
-                fixes: self.fixes,
-                pressure,
-                gps,
-                times,
-            },
-            MaybeFix::Fix(fix) => {
-                if 0xffff_ffff_ffff_ffff <= self.fixes {
-                    return self;
-                }
-                let counted = Report {
-                    answers,
-                    lines,
-                    fixes: self.fixes + 1,
-                    pressure,
-                    gps,
-                    times,
-                };
-                counted.with_fix(place, fix)
-            }
+        let counted = Report {
+            lines: self.lines + 1,
+            answers: with_count(self.answers, number, count + 1),
+            ..self
+        };
+        let Some(fix) = fix_in(reading) else {
+            return counted;
+        };
+        if self.fixes == u64::MAX {
+            return self;
         }
+        let with_one = Report {
+            fixes: self.fixes + 1,
+            ..counted
+        };
+        with_one.with_fix(place, fix)
     }
 }

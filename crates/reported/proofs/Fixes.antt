@@ -1,11 +1,12 @@
 -- Which lines are fixes: B lines alone.
+use Rattle.text.specs.Prelude.{None}
 use Rattle.text.specs.Prelude.{ℕ, code, ◌≡◌, Bool, true, false, List, Res, ok, no, bind, guard, pick}
 use Rattle.text.specs.Prelude.{◌=?◌, byte, begins}
 use Rattle.text.proofs.Prelude.{refl, sym, ◌∙◌, pass, is=, holds, both}
 use Rattle.text.specs.declared.refusal.Refusal.{Refusal}
 use Rattle.b_record.specs.BRecord.{read_b}
 use Rattle.records.specs.Record.{Kind, kind_of, read_c, read_kind, read_line_of, record_fix, answer_fix}
-use Rattle.records.specs.declared.{Record.Record, MaybeFix.MaybeFix}
+use Rattle.records.specs.declared.{Record.Record}
 
 -- a line that begins with B is read as one
 pub b_line : (s : List ℕ) → begins (code "B") s ≡ true → bind (read_b s) (λ b. ok (Record.B b)) ≡ read_line_of s
@@ -16,9 +17,9 @@ b_line s h = let b : byte 0 s ≡ code "B" = is= (both h).1 in pass _ (both h).0
 
 -- m is no fix
 abbrev Other : Res Record → Type 0
-Other m = answer_fix m ≡ MaybeFix.Missing
+Other m = answer_fix m ≡ None
 
-other_bind : {A : Type 0} (m : Res A) (f : A → Record) → ((v : A) → record_fix (f v) ≡ MaybeFix.Missing) →
+other_bind : {A : Type 0} (m : Res A) (f : A → Record) → ((v : A) → record_fix (f v) ≡ None) →
     Other (bind m (λ v. ok (f v)))
 unfolding bind answer_fix
 other_bind (ok v) f h = h v

@@ -1,17 +1,19 @@
 -- One line more, by its glance, is one reading more.
+use Rattle.report.specs.Peak.{GpsPeak, PressurePeak}
+use Rattle.b_record.specs.declared.BRecord.{BRecord}
+use Rattle.text.specs.Prelude.{None, Option, Some}
 use Rattle.text.specs.Prelude.{ℕ, ◌+◌, ◌<◌, ◌≤◌, ◌≡◌, Bool, true, false, List, [], length, get_or, Res, pick, largest}
 use Rattle.text.proofs.Prelude.{arith, refl, sym, ◌∙◌, first, second, is≤}
 use Rattle.text.proofs.Steps.{both as holding}
 use Rattle.b_record.specs.declared.FixValid.{FixValid}
 use Rattle.records.specs.Record.{read_line_of, answered, answer_fix}
-use Rattle.records.specs.declared.{Record.Record, MaybeFix.MaybeFix}
+use Rattle.records.specs.declared.{Record.Record}
 use Rattle.records.proofs.Numbers.{answer_le}
 use Rattle.report.specs.Range.{Range, joined, range_of}
 use Rattle.report.specs.Counts.{numbers, by_number}
 use Rattle.report.specs.Figures.{Figures, earlier, both}
 use Rattle.report.specs.Report.{fixes_in, of_fix_of, marked, pressure_at, gps_at, time_at, below_pressure, below_gps, one_of}
 use Rattle.report.specs.Report.{room_for, taken_by, is_full_of}
-use Rattle.report.specs.declared.{pressure.PressurePeak.PressurePeak, gps.GpsPeak.GpsPeak}
 use Rattle.report.proofs.Ranges.{joined_none, range_none, range_one}
 use Rattle.report.proofs.Counts.{raised}
 use Rattle.report.proofs.Full.{taken_below}
@@ -21,15 +23,15 @@ use Rattle.reported.specs.declared.glance.Glance.{Glance}
 
 -- ---- what a glance keeps of a fix
 
-number_kept : (n : ℕ) (m : MaybeFix) → (glance_at n m).number ≡ n
+number_kept : (n : ℕ) (m : (Option BRecord)) → (glance_at n m).number ≡ n
 unfolding glance_at plain_glance fix_glance
-number_kept n MaybeFix.Missing = refl
-number_kept n (MaybeFix.Fix b) = refl
+number_kept n None = refl
+number_kept n (Some b) = refl
 
-fix_kept : (n : ℕ) (m : MaybeFix) → pick (glance_at n m).fix 1 0 ≡ fixes_in m
+fix_kept : (n : ℕ) (m : (Option BRecord)) → pick (glance_at n m).fix 1 0 ≡ fixes_in m
 unfolding glance_at plain_glance fix_glance fixes_in pick
-fix_kept n MaybeFix.Missing = refl
-fix_kept n (MaybeFix.Fix b) = refl
+fix_kept n None = refl
+fix_kept n (Some b) = refl
 
 module _ {P : Type 0} (below : P → P → Bool) (r : Range P) where
   none_seen : r ≡ joined below r (range_of below [])
@@ -41,24 +43,24 @@ module _ {P : Type 0} (below : P → P → Bool) (r : Range P) where
   marked_seen FixValid.NavWarning p = none_seen
 
 module _ (p n : ℕ) where
-  pressure_kept : (r : Range PressurePeak) (m : MaybeFix) → let g = glance_at n m in
+  pressure_kept : (r : Range PressurePeak) (m : (Option BRecord)) → let g = glance_at n m in
       with_pressure g.marked p g.pressure r
       ≡ joined below_pressure r (range_of below_pressure (of_fix_of (pressure_at p) m))
   unfolding with_pressure one_seen glance_at plain_glance fix_glance of_fix_of pressure_at pick
-  pressure_kept r MaybeFix.Missing = none_seen below_pressure r
-  pressure_kept r (MaybeFix.Fix b) = marked_seen below_pressure r b.fix_valid _
+  pressure_kept r None = none_seen below_pressure r
+  pressure_kept r (Some b) = marked_seen below_pressure r b.fix_valid _
 
-  gps_kept : (r : Range GpsPeak) (m : MaybeFix) → let g = glance_at n m in
+  gps_kept : (r : Range GpsPeak) (m : (Option BRecord)) → let g = glance_at n m in
       with_gps g.marked p g.gps r ≡ joined below_gps r (range_of below_gps (of_fix_of (gps_at p) m))
   unfolding with_gps one_seen glance_at plain_glance fix_glance of_fix_of gps_at pick
-  gps_kept r MaybeFix.Missing = none_seen below_gps r
-  gps_kept r (MaybeFix.Fix b) = marked_seen below_gps r b.fix_valid _
+  gps_kept r None = none_seen below_gps r
+  gps_kept r (Some b) = marked_seen below_gps r b.fix_valid _
 
-  time_kept : (r : Range ℕ) (m : MaybeFix) → let g = glance_at n m in
+  time_kept : (r : Range ℕ) (m : (Option BRecord)) → let g = glance_at n m in
       with_time_of g.fix g.seconds r ≡ joined earlier r (range_of earlier (of_fix_of (time_at p) m))
   unfolding with_time_of one_seen glance_at plain_glance fix_glance of_fix_of time_at pick
-  time_kept r MaybeFix.Missing = none_seen earlier r
-  time_kept r (MaybeFix.Fix b) = rw (range_one earlier)
+  time_kept r None = none_seen earlier r
+  time_kept r (Some b) = rw (range_one earlier)
 
 -- ---- one line more
 

@@ -1,17 +1,15 @@
 -- Keeping the two ends of a range, of one thing more.
-use Rattle.text.specs.Prelude.{ℕ, zero, suc, ◌+◌, ◌≡◌, Bool, true, false, pick, ◌≤?◌}
+use Rattle.text.specs.Prelude.{ℕ, zero, suc, ◌+◌, ◌≡◌, ℤ, Bool, true, false, pick, ◌≤?◌}
 use Rattle.text.proofs.Prelude.{arith, refl, sym, ◌∙◌, yes≤, no≤}
 use lib.Dec.{ltb}
-use lib.Signed.{lt_z}
+use Rattle.std.specs.Int.Signed.{lt_z}
 use borrow.Author.Tests.{ltb-true, ltb-false}
-use Rattle.b_record.specs.declared.{PressureAlt.PressureAlt, GpsAlt.GpsAlt}
 use Rattle.text.proofs.Prelude.{by_test}
 use Rattle.report.specs.Range.{between, higher, joined}
 use Rattle.report.specs.Figures.{earlier}
-use Rattle.report.specs.Report.{below_pressure, below_gps}
-use Rattle.report.specs.declared.{pressure.PressurePeak.PressurePeak, gps.GpsPeak.GpsPeak}
-use Rattle.reported.specs.Flat.{ranged, pressure_between, gps_between, times_between, new_end_of}
-use Rattle.reported.specs.declared.{pressure.PressureEnds.PressureEnds, gps.GpsEnds.GpsEnds}
+use Rattle.reported.specs.Flat.{ranged, ends_between, times_between, new_end_of}
+use Rattle.reported.specs.declared.{heights.Ends.Ends}
+use Rattle.report.specs.declared.peak.Peak.{Peak}
 use Rattle.reported.specs.declared.times.TimeEnds.{TimeEnds}
 
 -- where something was seen
@@ -30,68 +28,42 @@ ends_joined below (suc n) high low p = refl
 
 -- ---- heights
 
--- a peak is picked by its place and its height
-pressure_picked : (t : Bool) (p q : PressurePeak) →
-    ◌≡◌ {A = PressurePeak} (record { place = pick t p.place q.place; height = pick t p.height q.height })
-    (pick t p q)
-unfolding pick
-pressure_picked true p q = refl
-pressure_picked false p q = refl
+module _ {H : Type 0} where
+  -- a peak is picked by its place and its height
+  peak_picked : (t : Bool) (p q : Peak H) →
+      ◌≡◌ {A = Peak H} (record { place = pick t p.place q.place; height = pick t p.height q.height }) (pick t p q)
+  unfolding pick
+  peak_picked true p q = refl
+  peak_picked false p q = refl
 
--- a pressure height more
-pub pressure_seen : (e : PressureEnds) (p : ℕ) (h : PressureAlt) {up down : Bool} {a b : ℕ} {x y : PressureAlt} →
-    up ≡ new_end_of e.seen (lt_z e.high.0 h.0) → down ≡ new_end_of e.seen (lt_z h.0 e.low.0) →
-    a ≡ pick up p e.high_place → b ≡ pick down p e.low_place → x ≡ pick up h e.high →
-    y ≡ pick down h e.low →
-    (let peak : PressurePeak = record { place = p; height = h } in
-    between (record { place = a; height = x }) (record { place = b; height = y })
-    ≡ joined below_pressure (pressure_between e) (between peak peak))
-unfolding below_pressure
-pressure_seen e p h u d a b x y =
-    let peak : PressurePeak = record { place = p; height = h } in
-    let high : PressurePeak = record { place = e.high_place; height = e.high } in
-    let low : PressurePeak = record { place = e.low_place; height = e.low } in
-    rw (
-      a,
-      b,
-      x,
-      y,
-      u,
-      d,
-      pressure_picked (new_end_of e.seen (below_pressure high peak)) peak high,
-      pressure_picked (new_end_of e.seen (below_pressure peak low)) peak low,
-    ) (ends_joined below_pressure e.seen high low peak)
+  module _ (metres : H → ℤ) where
+    -- by height alone
+    abbrev lower : Peak H → Peak H → Bool
+    lower a b = lt_z (metres a.height) (metres b.height)
 
-gps_picked : (t : Bool) (p q : GpsPeak) →
-    ◌≡◌ {A = GpsPeak} (record { place = pick t p.place q.place; height = pick t p.height q.height })
-    (pick t p q)
-unfolding pick
-gps_picked true p q = refl
-gps_picked false p q = refl
-
--- a GPS height more
-pub gps_seen : (e : GpsEnds) (p : ℕ) (h : GpsAlt) {up down : Bool} {a b : ℕ} {x y : GpsAlt} →
-    up ≡ new_end_of e.seen (lt_z e.high.0 h.0) → down ≡ new_end_of e.seen (lt_z h.0 e.low.0) →
-    a ≡ pick up p e.high_place → b ≡ pick down p e.low_place → x ≡ pick up h e.high →
-    y ≡ pick down h e.low →
-    (let peak : GpsPeak = record { place = p; height = h } in
-    between (record { place = a; height = x }) (record { place = b; height = y })
-    ≡ joined below_gps (gps_between e) (between peak peak))
-unfolding below_gps
-gps_seen e p h u d a b x y =
-    let peak : GpsPeak = record { place = p; height = h } in
-    let high : GpsPeak = record { place = e.high_place; height = e.high } in
-    let low : GpsPeak = record { place = e.low_place; height = e.low } in
-    rw (
-      a,
-      b,
-      x,
-      y,
-      u,
-      d,
-      gps_picked (new_end_of e.seen (below_gps high peak)) peak high,
-      gps_picked (new_end_of e.seen (below_gps peak low)) peak low,
-    ) (ends_joined below_gps e.seen high low peak)
+    -- a height more
+    pub height_seen : (e : Ends H) (p : ℕ) (h : H) {up down : Bool} {a b : ℕ} {x y : H} →
+        up ≡ new_end_of e.seen (lt_z (metres e.high) (metres h)) →
+        down ≡ new_end_of e.seen (lt_z (metres h) (metres e.low)) →
+        a ≡ pick up p e.high_place → b ≡ pick down p e.low_place → x ≡ pick up h e.high →
+        y ≡ pick down h e.low →
+        (let peak : Peak H = record { place = p; height = h } in
+        between (record { place = a; height = x }) (record { place = b; height = y })
+        ≡ joined lower (ends_between e) (between peak peak))
+    height_seen e p h u d a b x y =
+        let peak : Peak H = record { place = p; height = h } in
+        let high : Peak H = record { place = e.high_place; height = e.high } in
+        let low : Peak H = record { place = e.low_place; height = e.low } in
+        rw (
+          a,
+          b,
+          x,
+          y,
+          u,
+          d,
+          peak_picked (new_end_of e.seen (lower high peak)) peak high,
+          peak_picked (new_end_of e.seen (lower peak low)) peak low,
+        ) (ends_joined lower e.seen high low peak)
 
 -- ---- times
 

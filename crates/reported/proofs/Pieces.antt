@@ -1,4 +1,5 @@
 -- A piece of a log taken line by line, and pieces one after the other.
+use Rattle.report.specs.Peak.{GpsPeak, PressurePeak}
 use Rattle.text.specs.Prelude.{ℕ, ◌+◌, ◌-◌, ◌≤◌, ◌<◌, ◌≡◌, true, List, [], ◌∷◌, ◌++◌, length, largest}
 use Rattle.text.proofs.Prelude.{arith, refl, sym, ap, ◌∙◌, length-append, first, yes≤}
 use native.Mathlib.Nat.{zero-add, add-zero}
@@ -17,7 +18,6 @@ use Rattle.held.specs.declared.tables.Tables.{Tables}
 use Rattle.walk.specs.Readings.{LineReading, reader}
 use Rattle.report.specs.Figures.{Figures}
 use Rattle.report.specs.Report.{taken_by, report_of, report_step}
-use Rattle.report.specs.declared.{pressure.PressurePeak.PressurePeak, gps.GpsPeak.GpsPeak}
 use Rattle.report.proofs.Reports.{agrees}
 use Rattle.reported.specs.Reported.{readings_at, figures_on, SoFar, nothing_yet, report_on_of}
 use Rattle.reported.specs.Laws.{InPieces}

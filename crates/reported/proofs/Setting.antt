@@ -3,31 +3,29 @@ use Rattle.text.specs.Prelude.{ℕ, code, ◌≡◌, Bool, true, false, List, Re
 use Rattle.text.proofs.Prelude.{refl, ap, ◌∙◌, pass, is=, both, by_test}
 use Rattle.extension.specs.declared.Extension.{Extension}
 use Rattle.table.specs.Table.{read_table, table_read}
-use Rattle.table.specs.declared.TableRead.{TableRead}
+use Rattle.table.specs.declared.Table.{Table}
 use Rattle.records.specs.Record.{kind_of, read_kind, read_line_of, accepted_as, answered, record_fix, answer_fix}
 use Rattle.records.specs.declared.Record.{Record}
-use Rattle.held.specs.Held.{spoiled, set_by_of}
-use Rattle.held.specs.declared.Held.{Held}
+use Rattle.held.specs.Held.{set_by_of}
 use Rattle.reported.specs.Glance.{plain_glance, glance_at, glance_of, table_number}
-use Rattle.reported.specs.End.{sets_table_of, slot_of}
+use Rattle.reported.specs.End.{sets_table_of, left_of}
 
--- the verdict's number is the answer's
+-- the number of what was read is the answer's
 i_number : (m : Res (List Extension)) →
-    plain_glance (table_number (table_read m).verdict) ≡ glance_of (bind m (λ ds. ok Record.I))
+    plain_glance (table_number (table_read m)) ≡ glance_of (bind m (λ ds. ok Record.I))
 unfolding table_read table_number glance_of glance_at answered answer_fix accepted_as record_fix bind
 i_number (ok ds) = refl
 i_number (no n) = refl
 
 j_number : (m : Res (List Extension)) →
-    plain_glance (table_number (table_read m).verdict) ≡ glance_of (bind m (λ ds. ok Record.J))
+    plain_glance (table_number (table_read m)) ≡ glance_of (bind m (λ ds. ok Record.J))
 unfolding table_read table_number glance_of glance_at answered answer_fix accepted_as record_fix bind
 j_number (ok ds) = refl
 j_number (no n) = refl
 
--- what is held of a table with its verdict
-kept : (m : Res (List Extension)) → let t = table_read m in
-    ◌≡◌ {A = Held} (record { table = t.table; slot = slot_of t.verdict }) (set_by_of m)
-unfolding table_read set_by_of spoiled slot_of
+-- what is held of a line that was read so
+kept : (m : Res (List Extension)) → left_of (table_read m) ≡ set_by_of m
+unfolding table_read set_by_of left_of bind
 kept (ok ds) = refl
 kept (no n) = refl
 
@@ -52,14 +50,14 @@ module _ (s : List ℕ) where
   unfolding sets_table_of
   is_j h n = other_letter h n
 
-  module _ {r : TableRead} (read : r ≡ table_read (read_table s)) where
-    -- the glance at such a line, by its verdict
-    pub table_seen : sets_table_of s ≡ true → plain_glance (table_number r.verdict) ≡ glance_of (read_line_of s)
+  module _ {r : Res Table} (read : r ≡ table_read (read_table s)) where
+    -- the glance at such a line
+    pub table_seen : sets_table_of s ≡ true → plain_glance (table_number r) ≡ glance_of (read_line_of s)
     table_seen h =
         by_test (begins (code "I") s)
         (λ i. rw read (i_number (read_table s) ∙ ap glance_of (i_read i)))
         (λ n. rw read (j_number (read_table s) ∙ ap glance_of (j_read (is_j h n))))
 
     -- and what it leaves of its letter
-    pub table_kept : ◌≡◌ {A = Held} (record { table = r.table; slot = slot_of r.verdict }) (set_by_of (read_table s))
+    pub table_kept : left_of r ≡ set_by_of (read_table s)
     table_kept = rw read (kept (read_table s))

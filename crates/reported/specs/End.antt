@@ -1,7 +1,7 @@
 -- A walk whose report is carried as plain numbers, and which of its lines set a table.
-use Rattle.text.specs.Prelude.{ℕ, code, Bool, List, ◌∨?◌, begins}
-use Rattle.table.specs.declared.Verdict.{Verdict}
-use Rattle.held.specs.declared.{Slot.Slot, tables.Tables.Tables}
+use Rattle.text.specs.Prelude.{ℕ, code, Bool, List, Res, ok, no, ◌∨?◌, begins}
+use Rattle.table.specs.declared.Table.{Table}
+use Rattle.held.specs.declared.{Held.Held, tables.Tables.Tables}
 use Rattle.report.specs.Report.{report_made}
 use Rattle.walk.specs.declared.Walk.{Walk}
 use Rattle.reported.specs.Flat.{flat_in}
@@ -16,7 +16,7 @@ walk_from_of held answers f place number =
 unfoldable pub sets_table_of : List ℕ → Bool
 sets_table_of s = begins (code "I") s ∨? begins (code "J") s
 
--- What an I or a J line with that verdict leaves of its letter.
-unfoldable pub slot_of : Verdict → Slot
-slot_of Verdict.Accepted = Slot.Set
-slot_of (Verdict.Refused n) = Slot.Spoiled
+-- What an I or a J line that was read so leaves of its letter: its table is in force, or where it is refused none.
+unfoldable pub left_of : Res Table → Held
+left_of (ok t) = Held.Set t
+left_of (no n) = Held.Spoiled

@@ -1,14 +1,14 @@
 -- The figures of a report as plain numbers, which a loop carries, and one line more in them, by its glance.
+use Rattle.report.specs.Peak.{GpsPeak, PressurePeak}
 use Rattle.std.specs.Prelude.{◌+◌}
 use Rattle.text.specs.Prelude.{ℕ, zero, suc, Bool, true, List, get_or, set, pick, ◌≤?◌, ◌∧?◌, ◌∨?◌}
 use Rattle.text.specs.Prelude.{largest}
-use Rattle.b_record.specs.declared.{PressureAlt.PressureAlt, GpsAlt.GpsAlt}
+use Rattle.b_record.specs.declared.{height.PressureAlt.PressureAlt, height.GpsAlt.GpsAlt}
 use Rattle.report.specs.Range.{Range, none, between, joined}
 use Rattle.report.specs.Figures.{Figures, earlier}
 use Rattle.report.specs.Report.{below_pressure, below_gps}
-use Rattle.report.specs.declared.{pressure.PressurePeak.PressurePeak, gps.GpsPeak.GpsPeak}
-use Rattle.reported.specs.declared.{glance.Glance.Glance, flat.Flat.Flat, pressure.PressureEnds.PressureEnds}
-use Rattle.reported.specs.declared.{gps.GpsEnds.GpsEnds, times.TimeEnds.TimeEnds}
+use Rattle.reported.specs.declared.{glance.Glance.Glance, flat.Flat.Flat, heights.Ends.Ends, times.TimeEnds.TimeEnds}
+use Rattle.report.specs.declared.peak.Peak.{Peak}
 
 -- ---- what the numbers stand for
 
@@ -17,13 +17,8 @@ unfoldable pub ranged : {P : Type 0} → ℕ → P → P → Range P
 ranged zero high low = none
 ranged (suc n) high low = between high low
 
-abbrev pub pressure_between : PressureEnds → Range PressurePeak
-pressure_between e = ranged e.seen
-    (record { place = e.high_place; height = e.high })
-    (record { place = e.low_place; height = e.low })
-
-abbrev pub gps_between : GpsEnds → Range GpsPeak
-gps_between e = ranged e.seen
+abbrev pub ends_between : {H : Type 0} → Ends H → Range (Peak H)
+ends_between e = ranged e.seen
     (record { place = e.high_place; height = e.high })
     (record { place = e.low_place; height = e.low })
 
@@ -36,8 +31,8 @@ flat_in answers f = record {
   lines = f.lines;
   answers = answers;
   fixes = f.fixes;
-  pressure = pressure_between f.pressure;
-  gps = gps_between f.gps;
+  pressure = ends_between f.pressure;
+  gps = ends_between f.gps;
   times = times_between f.times;
 }
 

@@ -1,10 +1,11 @@
 -- What a report wants of the answer to a line.
-use Rattle.text.specs.Prelude.{ℕ, Bool, true, false, pos, Res, number_of}
+use Rattle.text.specs.Prelude.{None, Option, Some}
+use Rattle.text.specs.Prelude.{ℕ, Bool, true, false, pos, Res, ok, no, number_of}
 use Rattle.time.specs.Time.{seconds_of_lem}
-use Rattle.table.specs.declared.Verdict.{Verdict}
+use Rattle.table.specs.declared.Table.{Table}
 use Rattle.b_record.specs.declared.{BRecord.BRecord, FixValid.FixValid}
 use Rattle.records.specs.Record.{answered, answer_fix}
-use Rattle.records.specs.declared.{Record.Record, MaybeFix.MaybeFix}
+use Rattle.records.specs.declared.{Record.Record}
 use Rattle.reported.specs.declared.glance.Glance.{Glance}
 
 -- A fix is marked A.
@@ -35,15 +36,15 @@ fix_glance n b = record {
 }
 
 -- Of a line with that answer number, by its fix.
-unfoldable pub glance_at : ℕ → MaybeFix → Glance
-glance_at n MaybeFix.Missing = plain_glance n
-glance_at n (MaybeFix.Fix b) = fix_glance n b
+unfoldable pub glance_at : ℕ → Option BRecord → Glance
+glance_at n None = plain_glance n
+glance_at n (Some b) = fix_glance n b
 
 -- Of an answer.
 unfoldable pub glance_of : Res Record → Glance
 glance_of m = glance_at (answered m) (answer_fix m)
 
--- The paper's number of an I or a J line with that verdict.
-unfoldable pub table_number : Verdict → ℕ
-table_number Verdict.Accepted = 0
-table_number (Verdict.Refused n) = number_of n
+-- The paper's number of an I or a J line that was read so.
+unfoldable pub table_number : Res Table → ℕ
+table_number (ok t) = 0
+table_number (no n) = number_of n

@@ -1,4 +1,5 @@
 -- A log, or a piece of one, taken into a report.
+use Rattle.report.specs.Peak.{GpsPeak, PressurePeak}
 use Rattle.std.specs.Prelude.{◌+◌}
 use Rattle.text.specs.Prelude.{ℕ, List, length, pick, ◌≤?◌, largest}
 use Rattle.igc_log.specs.Log.{chunks, read_from}
@@ -7,7 +8,6 @@ use Rattle.held.specs.Tables.{no_tables}
 use Rattle.walk.specs.Readings.{LineReading, reader}
 use Rattle.report.specs.Figures.{Figures, empty}
 use Rattle.report.specs.Report.{report_step, figures_in}
-use Rattle.report.specs.declared.{pressure.PressurePeak.PressurePeak, gps.GpsPeak.GpsPeak}
 use Rattle.reported.specs.declared.Sofar.{Sofar}
 
 -- What a walk reads of some bytes that stand from a place on; no figure looks at a line's number or at what is held.

@@ -4,16 +4,18 @@ ghost use Rattle.std.specs.Prelude.{◌≡◌, true};
 ghost use Rattle.table.specs.Table.{read_table, table_read};
 ghost use Rattle.held.specs.Tables.{tables_after};
 ghost use Rattle.walk.specs.Readings.{at_end_of};
-ghost use Rattle.reported.specs.End.{walk_from_of, sets_table_of, slot_of};
+ghost use Rattle.reported.specs.End.{walk_from_of, sets_table_of, left_of};
 
 use crate::flat::Flat;
 use crate::glance::{look, of_table};
 use cursor::Cursor;
+use held::Held;
 use held::tables::Tables;
-use held::{Held, Slot};
 use igc_log::cut_at;
-use table::{Table, TableRead, Verdict};
+use part::InLine;
+use table::Table;
 use text::line::begins;
+use text::refusal::Refusal;
 use walk::Walk;
 
 // The walk that stands there.
@@ -36,24 +38,22 @@ fn sets_table(line: &[u8]) -> bool
 }
 
 // An accepted line's table is in force, a refused line spoils it.
-fn slot_of(verdict: Verdict) -> Slot
-    ensures { result ≡ slot_of verdict }
+#[tactic(auto, unfolding(crate::specs::End::left_of))]
+fn left_of(read: Result<Table, Refusal>) -> Held
+    ensures { result ≡ left_of read }
 {
-    match verdict {
-        Verdict::Accepted => Slot::Set,
-        Verdict::Refused(_no) => Slot::Spoiled,
+    match read {
+        Ok(table) => Held::Set(table),
+        Err(_no) => Held::Spoiled,
     }
 }
 
 // What is held after an I or a J line that was read so.
-fn with_table(before: Tables, line: &[u8], read: TableRead) -> Tables
+fn with_table(before: Tables, line: &[u8], read: Result<Table, Refusal>) -> Tables
     requires { (sets_table_of line.now ≡ true) × (read ≡ table_read (read_table line.now)) }
     ensures { result ≡ tables_after before line.now }
 {
-    let table = read.table;
-    let verdict = read.verdict;
-    let slot = slot_of(verdict);
-    let set = Held { table, slot };
+    let set = left_of(read);
     let mut held = before;
     if begins(b'I', line) {
         held.i = set;
@@ -74,11 +74,12 @@ pub fn walk_to_end(walk: Walk, log: &[u8]) -> Walk
     let mut full = before.is_full();
     let mut place = walk.at.place;
     let mut number = walk.at.number;
+    // A `while`, since it steps by what a line takes.
     while place < log.len() {
         if full {
             return walk_from(held, answers, figures, place, number);
         }
-        if 0xffff_ffff_ffff_ffff <= number {
+        if u64::MAX <= number {
             return walk_from(held, answers, figures, place, number);
         }
         let cut = cut_at(log, place);
@@ -86,9 +87,8 @@ pub fn walk_to_end(walk: Walk, log: &[u8]) -> Walk
         let line = part.view(log);
         let seen = if sets_table(line) {
             let read = Table::parse(line);
-            let verdict = read.verdict;
             held = with_table(held, line, read);
-            of_table(verdict)
+            of_table(read)
         } else {
             look(line)
         };

@@ -13,12 +13,10 @@ pub(crate) fn new_end(seen: u64, beyond: bool) -> bool
     beyond
 }
 
-// The new place, or the one before.
-pub(crate) fn place_of(new: bool, place: u64, before: u64) -> u64
-    ensures { result ≡ pick new place before }
+// The new value, or the one before.
+#[tactic(auto, unfolding(text::specs::Res::pick))]
+pub(crate) fn newer<T: Copy>(new: bool, value: T, before: T) -> T
+    ensures { result ≡ pick new value before }
 {
-    if new {
-        return place;
-    }
-    before
+    if new { value } else { before }
 }

@@ -7,28 +7,26 @@ ghost use Rattle.report.specs.Report.{figures_in};
 ghost use Rattle.reported.specs.Flat.{flat_in, room_by, full_by, one_more, glanced};
 
 use crate::glance::Glance;
-use crate::gps::GpsEnds;
-use crate::pressure::PressureEnds;
+use crate::heights::Ends;
 use crate::times::TimeEnds;
+use b_record::{GpsAlt, PressureAlt};
 use report::Report;
 
 #[derive(Clone, Copy)]
 pub(crate) struct Flat {
-    pressure: PressureEnds,
-    gps: GpsEnds,
+    pressure: Ends<PressureAlt>,
+    gps: Ends<GpsAlt>,
     times: TimeEnds,
     lines: u64,
     fixes: u64,
 }
 
 // A fix counts as one.
+#[tactic(auto, unfolding(text::specs::Res::pick))]
 fn one_if(fix: bool) -> u64
     ensures { result ≡ pick fix 1 0 }
 {
-    if fix {
-        return 1;
-    }
-    0
+    if fix { 1 } else { 0 }
 }
 
 impl Flat {
@@ -36,13 +34,10 @@ impl Flat {
     pub(crate) fn of(report: Report) -> Flat
         ensures { flat_in report.answers result ≡ figures_in report }
     {
-        let pressure = report.pressure;
-        let gps = report.gps;
-        let times = report.times;
         Flat {
-            pressure: PressureEnds::of(pressure),
-            gps: GpsEnds::of(gps),
-            times: TimeEnds::of(times),
+            pressure: Ends::of(report.pressure),
+            gps: Ends::of(report.gps),
+            times: TimeEnds::of(report.times),
             lines: report.lines,
             fixes: report.fixes,
         }
@@ -52,16 +47,13 @@ impl Flat {
     pub(crate) fn report(self, answers: [u64; 13]) -> Report
         ensures { figures_in result ≡ flat_in answers self }
     {
-        let pressure = self.pressure;
-        let gps = self.gps;
-        let times = self.times;
         Report {
             answers,
             lines: self.lines,
             fixes: self.fixes,
-            pressure: pressure.range(),
-            gps: gps.range(),
-            times: times.range(),
+            pressure: self.pressure.range(),
+            gps: self.gps.range(),
+            times: self.times.range(),
         }
     }
 
@@ -69,14 +61,14 @@ impl Flat {
     pub(crate) fn has_room(self, count: u64, seen: Glance) -> bool
         ensures { result ≡ room_by self.lines count self.fixes seen.fix }
     {
-        if 0xffff_ffff_ffff_ffff <= self.lines {
+        if u64::MAX <= self.lines {
             return false;
         }
-        if 0xffff_ffff_ffff_ffff <= count {
+        if u64::MAX <= count {
             return false;
         }
         if seen.fix {
-            return self.fixes < 0xffff_ffff_ffff_ffff;
+            return self.fixes < u64::MAX;
         }
         true
     }
@@ -85,13 +77,13 @@ impl Flat {
     pub(crate) fn is_full(self, count: u64) -> bool
         ensures { result ≡ full_by self.lines self.fixes count }
     {
-        if 0xffff_ffff_ffff_ffff <= self.lines {
+        if u64::MAX <= self.lines {
             return true;
         }
-        if 0xffff_ffff_ffff_ffff <= self.fixes {
+        if u64::MAX <= self.fixes {
             return true;
         }
-        0xffff_ffff_ffff_ffff <= count
+        u64::MAX <= count
     }
 
     // Over one line more, at a place.
@@ -100,15 +92,10 @@ impl Flat {
         ensures { (answers : List ℕ) →
             flat_in (one_more answers seen.number) result ≡ glanced (flat_in answers self) place seen }
     {
-        let pressure = self.pressure;
-        let gps = self.gps;
-        let times = self.times;
-        let by_pressure = seen.pressure;
-        let by_gps = seen.gps;
         Flat {
-            pressure: pressure.after(seen.marked, place, by_pressure),
-            gps: gps.after(seen.marked, place, by_gps),
-            times: times.after(seen.fix, seen.seconds),
+            pressure: self.pressure.after(seen.marked, place, seen.pressure),
+            gps: self.gps.after(seen.marked, place, seen.gps),
+            times: self.times.after(seen.fix, seen.seconds),
             lines: self.lines + 1,
             fixes: self.fixes + one_if(seen.fix),
         }

@@ -6,11 +6,12 @@ ghost use Rattle.b_record.specs.BRecord.{read_b};
 ghost use Rattle.records.specs.Record.{read_line_of};
 ghost use Rattle.reported.specs.Glance.{is_marked_of, plain_glance, fix_glance, glance_of, table_number};
 
-use b_quick::{Quick, quick_fix};
-use b_record::{BRead, BRecord, FixValid, GpsAlt, PressureAlt};
-use records::Record;
-use table::Verdict;
+use b_quick::quick_fix;
+use b_record::{BRecord, FixValid, GpsAlt, PressureAlt};
+use records::{Record, answer_number};
+use table::Table;
 use text::line::begins;
+use text::refusal::Refusal;
 
 #[derive(Clone, Copy)]
 pub(crate) struct Glance {
@@ -22,6 +23,7 @@ pub(crate) struct Glance {
     pub(crate) marked: bool,
 }
 
+#[tactic(auto, unfolding(crate::specs::Glance::is_marked_of))]
 fn is_marked(valid: FixValid) -> bool
     ensures { result ≡ is_marked_of valid }
 {
@@ -32,6 +34,7 @@ fn is_marked(valid: FixValid) -> bool
 }
 
 // Of a line that is no fix.
+#[tactic(auto, unfolding(crate::specs::Glance::plain_glance))]
 fn of_other(number: u8) -> Glance
     ensures { result ≡ plain_glance number }
 {
@@ -46,6 +49,7 @@ fn of_other(number: u8) -> Glance
 }
 
 // Of an accepted B line.
+#[tactic(auto, unfolding(crate::specs::Glance::fix_glance))]
 fn of_fix(fix: BRecord) -> Glance
     ensures { result ≡ fix_glance 0 fix }
 {
@@ -70,21 +74,22 @@ fn of_b(line: &[u8]) -> Glance
     ensures { result ≡ glance_of (bind (read_b line.now) (λ b. ok (Record.B b))) }
 {
     match quick_fix(line) {
-        Quick::Fix(fix) => of_fix(fix),
-        Quick::No => match BRecord::parse(line) {
-            BRead::Ok(b) => of_fix(b),
-            BRead::Refused(no_b) => of_other(no_b.number()),
+        Some(fix) => of_fix(fix),
+        None => match BRecord::parse(line) {
+            Ok(b) => of_fix(b),
+            Err(no_b) => of_other(no_b.number()),
         },
     }
 }
 
-// Of an I or a J line with that verdict.
-pub(crate) fn of_table(verdict: Verdict) -> Glance
-    ensures { result ≡ plain_glance (table_number verdict) }
+// Of an I or a J line that was read so.
+#[tactic(auto, unfolding(crate::specs::Glance::table_number))]
+pub(crate) fn of_table(read: Result<Table, Refusal>) -> Glance
+    ensures { result ≡ plain_glance (table_number read) }
 {
-    match verdict {
-        Verdict::Accepted => of_other(0),
-        Verdict::Refused(no_table) => of_other(no_table.number()),
+    match read {
+        Ok(_table) => of_other(0),
+        Err(no_table) => of_other(no_table.number()),
     }
 }
 
@@ -95,6 +100,5 @@ pub(crate) fn look(line: &[u8]) -> Glance
     if begins(b'B', line) {
         return of_b(line);
     }
-    let reading = Record::parse_line(line);
-    of_other(reading.number())
+    of_other(answer_number(Record::parse_line(line)))
 }

@@ -6,8 +6,7 @@ pub mod end;
 mod ends;
 mod flat;
 mod glance;
-mod gps;
-mod pressure;
+mod heights;
 mod times;
 
 ghost use Rattle.std.specs.Prelude.{◌≡◌, ◌+◌, ◌≤◌, length};
@@ -18,6 +17,7 @@ ghost use Rattle.reported.specs.Reported.{figures_on, nothing_yet, report_on_of,
 use crate::flat::Flat;
 use crate::glance::look;
 use igc_log::cut_at;
+use part::InLine;
 use report::Report;
 
 // The report of the lines so far, and the place of the next.
@@ -29,6 +29,7 @@ pub struct Sofar {
 
 impl Sofar {
     // Before the first line.
+    #[tactic(auto, unfolding(crate::specs::Reported::nothing_yet))]
     pub fn new() -> Sofar
         ensures { so_far_in result ≡ nothing_yet }
     {
@@ -47,6 +48,7 @@ fn report_from(before: Report, place: u64, piece: &[u8]) -> Report
     let mut answers = before.answers;
     let mut figures = Flat::of(before);
     let mut at = 0;
+    // A `while`, since it steps by what a line takes.
     while at < piece.len() {
         let cut = cut_at(piece, at);
         let part = cut.line;
@@ -69,7 +71,7 @@ pub fn report_on(before: Sofar, piece: &[u8]) -> Sofar
     let report = before.report;
     let place = before.place;
     let length = piece.len() as u64;
-    if 0xffff_ffff_ffff_ffff - place < length {
+    if u64::MAX - place < length {
         return before;
     }
     Sofar {

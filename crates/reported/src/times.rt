@@ -1,12 +1,13 @@
 // The latest and the earliest seconds since midnight as numbers with no gap between them.
 ghost use Rattle.std.specs.Prelude.{◌≡◌};
-ghost use Rattle.text.specs.Res.{pick};
-ghost use Rattle.report.specs.Report.{times_in};
+ghost use Rattle.report.specs.Peak.{range_in};
 ghost use Rattle.reported.specs.Flat.{times_between, with_time_of};
 
-use crate::ends::new_end;
-use report::times::TimeRange;
+use crate::ends::{new_end, newer};
+use report::peak::TimeRange;
+use report::range::Extremes;
 
+// Numbers and no Option, as `Ends` are, and for its reason.
 #[derive(Clone, Copy)]
 pub(crate) struct TimeEnds {
     latest: u32,
@@ -14,30 +15,21 @@ pub(crate) struct TimeEnds {
     seen: u64,
 }
 
-// The new time, or the one before.
-fn seconds_of(new: bool, seconds: u32, before: u32) -> u32
-    ensures { result ≡ pick new seconds before }
-{
-    if new {
-        return seconds;
-    }
-    before
-}
-
 impl TimeEnds {
     // The ends of a range.
+    #[tactic(auto, unfolding(crate::specs::Flat::ranged))]
     pub(crate) fn of(range: TimeRange) -> TimeEnds
-        ensures { times_between result ≡ times_in range }
+        ensures { times_between result ≡ range_in range }
     {
         match range {
-            TimeRange::Missing => TimeEnds {
+            None => TimeEnds {
                 latest: 0,
                 earliest: 0,
                 seen: 0,
             },
-            TimeRange::Between { latest, earliest } => TimeEnds {
-                latest,
-                earliest,
+            Some(Extremes { high, low }) => TimeEnds {
+                latest: high,
+                earliest: low,
                 seen: 1,
             },
         }
@@ -45,15 +37,15 @@ impl TimeEnds {
 
     // The range between them.
     pub(crate) fn range(self) -> TimeRange
-        ensures { times_in result ≡ times_between self }
+        ensures { range_in result ≡ times_between self }
     {
         if self.seen == 0 {
-            return TimeRange::Missing;
+            return None;
         }
-        TimeRange::Between {
-            latest: self.latest,
-            earliest: self.earliest,
-        }
+        Some(Extremes {
+            high: self.latest,
+            low: self.earliest,
+        })
     }
 
     // Of one time more, where it counts.
@@ -66,8 +58,8 @@ impl TimeEnds {
         let latest = new_end(self.seen, self.latest < seconds);
         let earliest = new_end(self.seen, seconds < self.earliest);
         TimeEnds {
-            latest: seconds_of(latest, seconds, self.latest),
-            earliest: seconds_of(earliest, seconds, self.earliest),
+            latest: newer(latest, seconds, self.latest),
+            earliest: newer(earliest, seconds, self.earliest),
             seen: 1,
         }
     }

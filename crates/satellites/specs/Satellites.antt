@@ -1,10 +1,10 @@
 -- The satellites that an F line lists, and how many of them are different.
 use Rattle.std.specs.Prelude.{◌+◌, ◌-◌, ◌%◌, ◌≡◌, ◌∷◌}
-use Rattle.text.specs.Prelude.{ℕ, Bool, false, List, [], length, Res, ok, no, bind, guard}
+use Rattle.text.specs.Prelude.{ℕ, Bool, false, List, [], length, Res, ok, bind, guard}
 use Rattle.text.specs.Prelude.{pick, ◌≤?◌, ◌=?◌, ◌∨?◌, all_digits_of, first_other_of, value_from}
 use Rattle.text.specs.declared.refusal.Refusal.TheVariants.{Syntax, UnreadableNumber}
 use Rattle.satellites.specs.Bits.{has_bit, word, how_many}
-use Rattle.satellites.specs.declared.{Satellites.Satellites, SatellitesRead.SatellitesRead}
+use Rattle.satellites.specs.declared.{Satellites.Satellites}
 
 -- ---- numbers in a row
 
@@ -70,9 +70,3 @@ read_satellites s = bind (read_numbers s) (λ ns. ok (set_of ns))
 pub record Counts (s : Satellites) (r : ℕ) : Type 0 where
   pub all : r ≡ count_of s
   pub read : (list : List ℕ) → read_satellites list ≡ ok s → r ≡ different (numbers list)
-
--- ---- the answers of the code
-
-abbrev pub satellites_res : SatellitesRead → Res Satellites
-satellites_res (SatellitesRead.Ok v) = ok v
-satellites_res (SatellitesRead.Refused n) = no n

@@ -3,7 +3,7 @@
 #![tactic(auto)]
 
 ghost use Rattle.std.specs.Prelude.{◌≡◌};
-ghost use Rattle.satellites.specs.Satellites.{has_number, with_number, Counts, read_satellites, satellites_res};
+ghost use Rattle.satellites.specs.Satellites.{has_number, with_number, Counts, read_satellites};
 
 use field::first_other;
 use text::refusal::Refusal;
@@ -13,12 +13,6 @@ use text::refusal::Refusal;
 pub struct Satellites {
     pub low: u64,
     pub high: u64,
-}
-
-#[derive(Clone, Copy)]
-pub enum SatellitesRead {
-    Ok(Satellites),
-    Refused(Refusal),
 }
 
 impl Satellites {
@@ -63,24 +57,22 @@ impl Satellites {
     }
 
     // Reads a list of two digits a satellite.
-    pub fn parse(text: &[u8]) -> SatellitesRead
-        ensures { satellites_res result ≡ read_satellites text.now }
+    pub fn parse(text: &[u8]) -> Result<Satellites, Refusal>
+        ensures { result ≡ read_satellites text.now }
     {
         if text.len() % 2 != 0 {
-            return SatellitesRead::Refused(Refusal::Syntax);
+            return Err(Refusal::Syntax);
         }
         let other = first_other(text);
         if other < text.len() {
-            return SatellitesRead::Refused(Refusal::UnreadableNumber(other));
+            return Err(Refusal::UnreadableNumber(other));
         }
         let mut heard = Satellites { low: 0, high: 0 };
-        let mut i = 0;
-        while i < text.len() {
-            let tens = text[i] - b'0';
-            let ones = text[i + 1] - b'0';
+        for k in 0..text.len() / 2 {
+            let tens = text[2 * k] - b'0';
+            let ones = text[2 * k + 1] - b'0';
             heard = heard.with(tens * 10 + ones);
-            i += 2;
         }
-        SatellitesRead::Ok(heard)
+        Ok(heard)
     }
 }

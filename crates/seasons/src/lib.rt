@@ -23,7 +23,7 @@ struct Season {
     writable: bool,
 }
 
-// A line is at most this long.
+// A line is at most this long. The rooms here are fixed, since there is no heap.
 fn window() -> [u8; 1048576]
     ensures { 1048576 ≡ length result }
 {
@@ -43,7 +43,7 @@ fn say_log(sys: &System, number: u64, file: &[u8]) {
     make_visible(&mut text);
     let end = put_bytes(&mut text, at_end, b"\n");
     if end <= text.len() {
-        write_all(sys, Sink::Errors, &text[0..end]);
+        let _ = write_all(sys, Sink::Errors, &text[0..end]);
     }
 }
 
@@ -59,22 +59,20 @@ fn after_report(sys: &System, before: Season, number: u64, report: Report) -> Se
             writable: false,
         };
     }
-    let added = total.add(report);
-    let sum = added.total;
-    if added.fits {
+    if let Ok(sum) = total.add(report) {
         return Season {
             total: sum,
             whole: before.whole,
             writable: true,
         };
     }
-    write_all(
+    let _ = write_all(
         sys,
         Sink::Errors,
         b"tokelivo: the counts of all logs pass 64 bits\n",
     );
     Season {
-        total: sum,
+        total,
         whole: false,
         writable: true,
     }
@@ -100,7 +98,7 @@ fn after_file(sys: &System, before: Season, number: u64, file: &[u8], win: &mut 
     let read = report_file(sys, &from, win);
     let sofar = read.sofar;
     let outcome = read.outcome;
-    if outcome.has_failed() {
+    if outcome.is_err() {
         tell(sys, Sink::Nowhere, file, outcome);
         sys.close(from);
         return without(before);
@@ -113,11 +111,10 @@ fn after_file(sys: &System, before: Season, number: u64, file: &[u8], win: &mut 
 // After the log that the argument i names.
 fn after_argument(sys: &System, before: Season, number: u64, i: usize, win: &mut [u8]) -> Season {
     let mut file = buffer();
-    let n = sys.arg(i, &mut file);
-    if sys.errno() != 0 {
+    let Ok(n) = sys.arg(i, &mut file) else {
         fail(sys, b"a file's name", b"cannot be taken");
         return without(before);
-    }
+    };
     after_file(sys, before, number, &file[0..n], win)
 }
 
@@ -130,7 +127,7 @@ fn close_sheet(sys: &System, season: Season, told: Sink) {
     let mut out = buffer();
     let end = put_all(&mut out, 0, total);
     if write_block(sys, &mut out, end) {
-        write_all(sys, told, b"0");
+        let _ = write_all(sys, told, b"0");
     }
 }
 
@@ -141,17 +138,15 @@ fn after_words(sys: &System, first: usize, words: usize, win: &mut [u8]) -> Seas
         whole: true,
         writable: true,
     };
-    let mut i = first;
     let mut number: u64 = 1;
-    while i < words {
-        if 0xffff_ffff_ffff_ffff <= number {
+    for i in first..words {
+        if number == u64::MAX {
             return without(season);
         }
         season = after_argument(sys, season, number, i, win);
         if !season.writable {
             return season;
         }
-        i += 1;
         number += 1;
     }
     season

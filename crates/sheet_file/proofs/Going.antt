@@ -1,54 +1,31 @@
 -- A sheet read through a window, from read to read.
-use Rattle.text.specs.Prelude.{ℕ, ◌+◌, ◌-◌, ◌≤◌, ◌≡◌, Bool, true, false, not, List, [], ◌++◌, length, take, drop, pick}
+use Rattle.std.specs.Prelude.{Option, Some, None, is_none, Result, Ok, Err}
+use Rattle.text.specs.Prelude.{ℕ, ◌+◌, ◌-◌, ◌≤◌, ◌≡◌, true, false, List, [], ◌++◌, length, take, drop, pick}
 use Rattle.text.specs.Prelude.{◌=?◌}
 use Rattle.text.proofs.Prelude.{arith, refl, sym, ap, ◌∙◌, first, second, yes=, no=, by_test, never, length-drop}
 use Rattle.igc_log.specs.Log.{closed}
 use Rattle.igc_log.proofs.Chunks.{closed_none, closed_append}
-use Rattle.files.specs.declared.input.Filled.{Filled}
-use Rattle.total.specs.Total.{Totals, no_logs}
+use Rattle.files.specs.declared.{input.Filled.Filled, input.NotRead.NotRead}
 use Rattle.window.specs.Piece.{piece_end_of}
-use Rattle.sheet_read.specs.Sheet.{from_all_of, ends, Sheet, whole, no_sheet, read_sheet_of, Beside, beside}
-use Rattle.sheet_read.specs.declared.Verdict.{Verdict}
-use Rattle.sheet_file.specs.File.{Onward, stopped, counted, ended_as, last_turn, passing, passed, full_turn, turned}
-use Rattle.sheet_file.specs.File.{window_after, Told}
-use Rattle.sheet_file.specs.declared.Ended.{Ended}
+use Rattle.sheet_read.specs.Sheet.{from_all_of, ends, Sheet, whole, no_sheet, read_sheet_of}
+use Rattle.sheet_file.specs.File.{Answer, Onward, stopped, counted, ended_as, last_turn, passing, passed, full_turn}
+use Rattle.sheet_file.specs.File.{turned, window_after, Told}
+use Rattle.sheet_file.specs.declared.NoTotal.{NoTotal}
 use Rattle.sheet_file.proofs.Passing.{later, ends_append, all_behind, read_behind, passing_none, passing_closed}
 
 -- ---- a turn
 
 -- where no read is to follow, the window is as it was
-pub unmoved : {more : Bool} (w : List ℕ) → more ≡ false → w ≡ window_after more w
+pub unmoved : (ended : Option Answer) (w : List ℕ) → is_none ended ≡ false → w ≡ window_after ended w
 unfolding window_after
-unmoved w e = second _ e refl
+unmoved None w e = never refl e
+unmoved (Some a) w e = refl
 
 -- none follows the last piece
-pub last_is_last : (before : ℕ) (x : Sheet) → (ended_as before x).more ≡ false
+pub last_is_last : (before : ℕ) (x : Sheet) → is_none (ended_as before x).ended ≡ false
 unfolding ended_as stopped
 last_is_last before (whole t) = refl
 last_is_last before (no_sheet n) = refl
-
--- by the verdict on the last piece
-pub whole_ends : (before : ℕ) (x : Sheet) {t : Totals} →
-    record { verdict = Verdict.Whole; total = t } ≡ beside x → stopped t Ended.Whole ≡ ended_as before x
-unfolding ended_as beside
-whole_ends before (whole u) e = ap (λ (b : Beside). stopped b.total Ended.Whole) e
-whole_ends before (no_sheet n) e =
-    let v : Verdict.Whole ≡ Verdict.Wrong n = ap (λ (b : Beside). b.verdict) e in
-    let z : ◌≡◌ {A = ℕ} 0 1 = cc in
-    absurd (omega arith)
-
-pub wrong_ends : (before : ℕ) (x : Sheet) {n : ℕ} {t : Totals} →
-    record { verdict = Verdict.Wrong n; total = t } ≡ beside x →
-    stopped t (Ended.Wrong (counted before n)) ≡ ended_as before x
-unfolding ended_as beside
-wrong_ends before (whole u) {n} e =
-    let v : Verdict.Wrong n ≡ Verdict.Whole = ap (λ (b : Beside). b.verdict) e in
-    let z : ◌≡◌ {A = ℕ} 0 1 = cc in
-    absurd (omega arith)
-wrong_ends before (no_sheet m) {n} e =
-    let v : Verdict.Wrong n ≡ Verdict.Wrong m = ap (λ (b : Beside). b.verdict) e in
-    let l : n ≡ m = cc in
-    rw (ap (λ (b : Beside). b.total) e, l)
 
 -- how much of a full window goes by, as it was found
 pub found_is : (w : List ℕ) {n g : ℕ} → n ≡ piece_end_of false w → drop g (take n w) ≡ from_all_of true (take n w) →
@@ -60,7 +37,7 @@ found_is w {n} {g} e d h =
     sym (rw e at l)
 
 module _ (before : ℕ) (w : List ℕ) {g : ℕ} (is : g ≡ passing w) where
-  pub none_pass : g ≡ 0 → stopped no_logs (Ended.TooLong (counted before 1)) ≡ full_turn before w
+  pub none_pass : g ≡ 0 → stopped (Err (NoTotal.TooLong (counted before 1))) ≡ full_turn before w
   unfolding full_turn
   none_pass z = first _ (yes= (sym is ∙ z)) refl
 
@@ -99,14 +76,19 @@ goes_by g w =
           ∙ ap (counted 0) (sym (ends_append g.bytes x));
     }
 
+-- what is told at an end is true
+abbrev pub ToldAt : Option Answer → Type 0
+ToldAt None = Unit
+ToldAt (Some a) = Told a
+
 -- the end is told of all bytes
 ends_as : {before : ℕ} → (k : ℕ) → before ≡ counted 0 k → (x : Sheet) → ended_as before x ≡ ended_as 0 (later k x)
 unfolding ended_as
 ends_as k e (whole t) = refl
 ends_as k e (no_sheet n) =
-    ap (λ m. stopped no_logs (Ended.Wrong m)) (ap (λ m. counted m n) e ∙ counted_twice k n)
+    ap (λ m. stopped (Err (NoTotal.Wrong m))) (ap (λ m. counted m n) e ∙ counted_twice k n)
 
-told_as : (bytes : List ℕ) (t : Onward) (x : Sheet) → t ≡ ended_as 0 x → x ≡ read_sheet_of bytes → Told t.total t.ended
+told_as : (bytes : List ℕ) (t : Onward) (x : Sheet) → t ≡ ended_as 0 x → x ≡ read_sheet_of bytes → ToldAt t.ended
 unfolding ended_as stopped
 told_as bytes t (whole y) e h = rw e (record { bytes = bytes; made = ap (ended_as 0) h })
 told_as bytes t (no_sheet n) e h = rw e (record { bytes = bytes; made = ap (ended_as 0) h })
@@ -115,8 +97,8 @@ told_as bytes t (no_sheet n) e h = rw e (record { bytes = bytes; made = ap (ende
 
 -- what is told is true, and what is to follow goes on from the lines that went by
 pub record Goes (t : Onward) : Type 0 where
-  pub told : Told t.total t.ended
-  pub gone : t.more ≡ true → Gone t.before
+  pub told : ToldAt t.ended
+  pub gone : is_none t.ended ≡ true → Gone t.before
 
 module _ {before : ℕ} (g : Gone before) where
   goes_last : (s : List ℕ) → Goes (last_turn before s)
@@ -134,17 +116,12 @@ module _ {before : ℕ} (g : Gone before) where
   unfolding full_turn passed stopped pick
   goes_full w =
       by_test (passing w =? 0)
-      (λ e. rw e (record { told = refl; gone = λ h. never h refl }))
-      (λ e. rw e (record { told = refl; gone = λ h. goes_by g w }))
+      (λ e. rw e (record { told = tt; gone = λ h. never h refl }))
+      (λ e. rw e (record { told = tt; gone = λ h. goes_by g w }))
 
   -- however far the window was filled
-  pub goes_turned : (f : Filled) (w : List ℕ) → Goes (turned f before w)
-  unfolding turned stopped
-  goes_turned (Filled.Ended n) w = goes_last (take n w)
-  goes_turned Filled.Full w = goes_full w
-  goes_turned Filled.Failed w = record { told = refl; gone = λ h. never h refl }
-
--- where more is to follow, as the code tests it
-pub goes_more : {more : Bool} → not more ≡ false → more ≡ true
-goes_more {more = true} h = refl
-goes_more {more = false} h = never refl h
+  pub goes_turned : (f : Result Filled NotRead) (w : List ℕ) → Goes (turned f before w)
+  unfolding stopped
+  goes_turned (Ok (Filled.Ended n)) w = goes_last (take n w)
+  goes_turned (Ok Filled.Full) w = goes_full w
+  goes_turned (Err e) w = record { told = tt; gone = λ h. never h refl }

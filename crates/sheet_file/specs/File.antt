@@ -1,12 +1,17 @@
 -- What is read of a sheet that goes through a window.
-use Rattle.std.specs.Prelude.{◌+◌, ◌-◌, ◌≡◌}
-use Rattle.text.specs.Prelude.{ℕ, min, Bool, true, false, List, length, take, drop, pick, ◌=?◌, largest}
+use Rattle.std.specs.Prelude.{◌+◌, ◌-◌, ◌≡◌, Option, Some, None, option_map, Result, Ok, Err}
+use Rattle.text.specs.Prelude.{ℕ, min, true, false, List, length, take, drop, pick, ◌=?◌, largest}
 use Rattle.std.proofs.lemmas.List.Edits.{sets}
 use Rattle.window.specs.Piece.{piece_end_of}
-use Rattle.files.specs.declared.input.Filled.{Filled}
-use Rattle.total.specs.Total.{Totals, no_logs, total_in}
+use Rattle.files.specs.declared.{input.Filled.Filled, input.NotRead.NotRead}
+use Rattle.total.specs.Total.{Totals, total_in}
+use Rattle.total.specs.declared.Total.{Total}
 use Rattle.sheet_read.specs.Sheet.{from_all_of, ends, Sheet, whole, no_sheet, read_sheet_of}
-use Rattle.sheet_file.specs.declared.{Turn.Turn, Ended.Ended}
+use Rattle.sheet_file.specs.declared.{Turn.Turn, NoTotal.NoTotal}
+
+-- The total of a file's sheet, or why it has none.
+abbrev pub Answer : Type 0
+Answer = Result Totals NoTotal
 
 -- What goes from read to read.
 pub record Onward : Type 0 where
@@ -14,14 +19,12 @@ pub record Onward : Type 0 where
   pub before : ℕ
   -- Bytes that wait at the window's front.
   pub fill : ℕ
-  -- A read is to follow.
-  pub more : Bool
-  pub total : Totals
-  pub ended : Ended
+  -- The answer, if no read is to follow.
+  pub ended : Option Answer
 
 -- No read is to follow.
-unfoldable pub stopped : Totals → Ended → Onward
-stopped t e = record { before = 0; fill = 0; more = false; total = t; ended = e }
+unfoldable pub stopped : Answer → Onward
+stopped a = record { before = 0; fill = 0; ended = Some a }
 
 -- Lines counted on, as far as 64 bits hold them.
 abbrev pub counted : ℕ → ℕ → ℕ
@@ -29,8 +32,8 @@ counted before n = min (before + n) largest
 
 -- The end of a sheet with so many lines before it: its total, or the line at which it is no sheet.
 unfoldable pub ended_as : ℕ → Sheet → Onward
-ended_as before (whole t) = stopped t Ended.Whole
-ended_as before (no_sheet n) = stopped no_logs (Ended.Wrong (counted before n))
+ended_as before (whole t) = stopped (Ok t)
+ended_as before (no_sheet n) = stopped (Err (NoTotal.Wrong (counted before n)))
 
 -- After the last read all is read.
 unfoldable pub last_turn : ℕ → List ℕ → Onward
@@ -45,47 +48,48 @@ unfoldable pub passed : ℕ → List ℕ → ℕ → Onward
 passed before w n = record {
   before = counted before (ends (take n w));
   fill = length w - n;
-  more = true;
-  total = no_logs;
-  ended = Ended.NotRead;
+  ended = None;
 }
 
 -- Of a full window the lines before the last block go by; where there are none, what begins there is too long.
 unfoldable pub full_turn : ℕ → List ℕ → Onward
 full_turn before w =
-    pick (passing w =? 0) (stopped no_logs (Ended.TooLong (counted before 1))) (passed before w (passing w))
+    pick (passing w =? 0) (stopped (Err (NoTotal.TooLong (counted before 1)))) (passed before w (passing w))
 
 -- By how far the window w was filled; of one that was not read there is no total.
-unfoldable pub turned : Filled → ℕ → List ℕ → Onward
-turned (Filled.Ended n) before w = last_turn before (take n w)
-turned Filled.Full before w = full_turn before w
-turned Filled.Failed before w = stopped no_logs Ended.NotRead
+abbrev pub turned : Result Filled NotRead → ℕ → List ℕ → Onward
+turned (Ok (Filled.Ended n)) before w = last_turn before (take n w)
+turned (Ok Filled.Full) before w = full_turn before w
+turned (Err e) before w = stopped (Err NoTotal.NotRead)
 
 -- Where a read is to follow, what is behind the lines that went by stands in front; else the window is as it was.
-unfoldable pub window_after : Bool → List ℕ → List ℕ
-window_after more w = pick more (sets w 0 (drop (passing w) w)) w
+unfoldable pub window_after : Option Answer → List ℕ → List ℕ
+window_after None w = sets w 0 (drop (passing w) w)
+window_after (Some a) w = w
 
 -- ---- from read to read
 
 -- The file had these bytes, and this is how their sheet ended.
-pub record Ends (t : Totals) (e : Ended) : Type 0 where
+pub record Ends (a : Answer) : Type 0 where
   pub bytes : List ℕ
-  pub made : stopped t e ≡ ended_as 0 (read_sheet_of bytes)
+  pub made : stopped a ≡ ended_as 0 (read_sheet_of bytes)
 
 -- A total, or a line that is not one of a sheet, is told of all bytes of the file; else there is no total.
-abbrev pub Told : Totals → Ended → Type 0
-Told t Ended.Whole = Ends t Ended.Whole
-Told t (Ended.Wrong n) = Ends t (Ended.Wrong n)
-Told t (Ended.TooLong n) = t ≡ no_logs
-Told t Ended.NotRead = t ≡ no_logs
+abbrev pub Told : Answer → Type 0
+Told (Ok t) = Ends (Ok t)
+Told (Err (NoTotal.Wrong n)) = Ends (Err (NoTotal.Wrong n))
+Told (Err (NoTotal.TooLong n)) = Unit
+Told (Err NoTotal.NotRead) = Unit
 
 -- ---- what the code holds
+
+abbrev pub answer_in : Result Total NoTotal → Answer
+answer_in (Ok t) = Ok (total_in t)
+answer_in (Err e) = Err e
 
 abbrev pub turn_in : Turn → Onward
 turn_in t = record {
   before = t.before;
   fill = t.fill;
-  more = t.more;
-  total = total_in t.total;
-  ended = t.ended;
+  ended = option_map answer_in t.ended;
 }

@@ -1,4 +1,5 @@
 -- The blocks of single logs are passed over: none of their lines begins with `all `.
+use Rattle.report.specs.Peak.{GpsPeak, PressurePeak}
 use Rattle.text.specs.Prelude.{ℕ, ◌+◌, ◌≡◌, Bool, true, false, List, [], ◌∷◌, ◌++◌, pick, ◌=?◌, ◌∧?◌, LF, ℤ, pos}
 use Rattle.text.specs.Prelude.{negsuc, all_digits_of, padded, signed}
 use Rattle.text.specs.Spelt.{spelt, spelt_from}
@@ -6,7 +7,6 @@ use Rattle.text.proofs.Prelude.{arith, refl, ◌∙◌, append_assoc, no=}
 use Rattle.text.proofs.Decimal.{head_digit, all_padded}
 use Rattle.report.specs.Range.{Range, none, between}
 use Rattle.report.specs.Figures.{Figures}
-use Rattle.report.specs.declared.{pressure.PressurePeak.PressurePeak, gps.GpsPeak.GpsPeak}
 use Rattle.sheet_text.specs.Sheet.{number_line, none_line, answer_line, answer_lines, time_lines, at_place_of, height_line}
 use Rattle.sheet_text.specs.Sheet.{range_lines, pressure_peak_line, gps_peak_line, count_lines, figure_lines, log_text}
 use Rattle.block_read.specs.Read.{starts_with}

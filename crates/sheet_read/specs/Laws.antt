@@ -1,8 +1,8 @@
 -- A season's sheet is read as its total.
+use Rattle.report.specs.Peak.{GpsPeak, PressurePeak}
 use Rattle.std.specs.Prelude.{◌+◌, ◌≡◌, ◌∷◌, ◌++◌}
 use Rattle.text.specs.Prelude.{ℕ, List, []}
 use Rattle.report.specs.Figures.{Figures}
-use Rattle.report.specs.declared.{pressure.PressurePeak.PressurePeak, gps.GpsPeak.GpsPeak}
 use Rattle.total.specs.Total.{Totals}
 use Rattle.sheet_text.specs.Sheet.{log_text, all_text}
 use Rattle.block_read.specs.Laws.{InFields}

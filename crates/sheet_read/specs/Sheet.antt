@@ -1,11 +1,12 @@
 -- The total of a sheet: its last block.
-use Rattle.std.specs.Prelude.{◌+◌, ◌-◌, ◌∷◌}
-use Rattle.text.specs.Prelude.{ℕ, Bool, true, List, [], length, take, pick, ◌=?◌, ◌∧?◌, LF}
+use Rattle.std.specs.Prelude.{Result, ◌+◌, ◌-◌, ◌∷◌}
+use Rattle.text.specs.Prelude.{ℕ, Bool, true, ok, no, List, [], length, take, pick, ◌=?◌, ◌∧?◌, LF}
 use Rattle.text.specs.Spelt.{spelt}
-use Rattle.total.specs.Total.{Totals, no_logs, total_in}
+use Rattle.total.specs.Total.{Totals, total_in}
+use Rattle.total.specs.declared.Total.{Total}
 use Rattle.block_read.specs.Read.{Read, got, wrong, next, starts_with}
 use Rattle.block_read.specs.Block.{read_all}
-use Rattle.sheet_read.specs.declared.{SheetRead.SheetRead, Verdict.Verdict}
+use Rattle.sheet_read.specs.declared.Wrong.{Wrong}
 
 -- The text from its first line on that begins with `all `; whether it stands at a line's start is said beside it.
 unfoldable pub from_all_of : Bool → List ℕ → List ℕ
@@ -37,15 +38,6 @@ read_sheet_of s = sheet_of s (next (read_all (from_all_of true s)) (λ t r. pick
 
 -- ---- the answers of the code
 
--- The verdict, and the total beside it.
-pub record Beside : Type 0 where
-  pub verdict : Verdict
-  pub total : Totals
-
--- Beside a line stands the total of no logs.
-unfoldable pub beside : Sheet → Beside
-beside (whole t) = record { verdict = Verdict.Whole; total = t }
-beside (no_sheet n) = record { verdict = Verdict.Wrong n; total = no_logs }
-
-abbrev pub sheet_in : SheetRead → Beside
-sheet_in r = record { verdict = r.verdict; total = total_in r.total }
+abbrev pub sheet_in : Result Total Wrong → Sheet
+sheet_in (ok t) = whole (total_in t)
+sheet_in (no w) = no_sheet w.line

@@ -1,24 +1,16 @@
 // The total of a sheet, read back from its last block.
 #![tactic(auto)]
 
-ghost use Rattle.std.specs.Prelude.{◌≤◌, ◌≡◌, true, length, drop};
-ghost use Rattle.sheet_read.specs.Sheet.{from_all_of, ends, read_sheet_of, beside, sheet_in};
+ghost use Rattle.std.specs.Prelude.{◌+◌, ◌≤◌, ◌≡◌, true, length, take, drop};
+ghost use Rattle.sheet_read.specs.Sheet.{from_all_of, ends, read_sheet_of, sheet_in};
 
 use block_read::{read_block, starts_with};
 use total::Total;
 
-// The line at which it is no sheet, from 1.
-#[derive(Clone, Copy)]
-pub enum Verdict {
-    Whole,
-    Wrong(u64),
-}
-
-// The verdict stands beside the total: an enum holds no array. Where it is no sheet this is the total of no logs.
-#[derive(Clone, Copy)]
-pub struct SheetRead {
-    pub total: Total,
-    pub verdict: Verdict,
+// A text is no sheet: the line, from 1, at which it is none.
+#[derive(Clone, Copy, PartialEq, Eq)]
+pub struct Wrong {
+    pub line: u64,
 }
 
 // Where the first line begins that begins with `all `; without one, the end.
@@ -27,17 +19,15 @@ pub fn find_all(text: &[u8]) -> usize
     ensures upper_bound { result ≤ length text.now }
 {
     let mut start = true;
-    let mut i: usize = 0;
-    while i < text.len() {
+    for i in 0..text.len() {
         if start {
             if starts_with(&text[i..], b"all ") {
                 return i;
             }
         }
         start = text[i] == b'\n';
-        i += 1;
     }
-    i
+    text.len()
 }
 
 // How many lines end in a text.
@@ -45,35 +35,36 @@ pub fn count_ends(text: &[u8]) -> u64
     ensures { result ≡ ends text.now }
 {
     let mut count: u64 = 0;
-    let mut i: usize = 0;
-    while i < text.len() {
-        if text[i] == b'\n' {
+    for &b in text {
+        if b == b'\n' {
             count += 1;
         }
-        i += 1;
     }
     count
 }
 
+// It is no sheet from that place on.
+fn wrong_at(text: &[u8], stop: usize) -> Wrong
+    requires { stop ≤ length text.now }
+    ensures { result.line ≡ ends (take stop text.now) + 1 }
+{
+    let line = count_ends(&text[..stop]) + 1;
+    Wrong { line }
+}
+
 // The total of a sheet, or the line at which it is none.
-pub fn read_sheet(text: &[u8]) -> SheetRead
-    ensures { sheet_in result ≡ beside (read_sheet_of text.now) }
+pub fn read_sheet(text: &[u8]) -> Result<Total, Wrong>
+    ensures { sheet_in result ≡ read_sheet_of text.now }
 {
     let at = find_all(text);
-    let block = read_block(&text[at..]);
-    let stop = at + block.end;
-    if block.good {
-        if stop == text.len() {
-            let total = block.total;
-            return SheetRead {
-                total,
-                verdict: Verdict::Whole,
-            };
+    match read_block(&text[at..]) {
+        Ok((total, end)) => {
+            let stop = at + end;
+            if stop == text.len() {
+                return Ok(total);
+            }
+            Err(wrong_at(text, stop))
         }
-    }
-    let line = count_ends(&text[0..stop]) + 1;
-    SheetRead {
-        total: Total::new(),
-        verdict: Verdict::Wrong(line),
+        Err(end) => Err(wrong_at(text, at + end)),
     }
 }

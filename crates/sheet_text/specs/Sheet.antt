@@ -1,11 +1,11 @@
 -- The sheet of a season: a block of lines for each log, and one for all of them. Numbers are in plain decimal.
+use Rattle.span.specs.Spot.{GpsSpot, PressureSpot}
+use Rattle.report.specs.Peak.{GpsPeak, PressurePeak}
 use Rattle.std.specs.Prelude.{◌+◌, ◌∷◌, ◌++◌}
 use Rattle.text.specs.Prelude.{ℕ, List, [], pick, ◌=?◌, LF, padded}
 use Rattle.b_record.specs.BRecord.{pressure_text, gps_text}
 use Rattle.report.specs.Range.{Range, none, between}
 use Rattle.report.specs.Figures.{Figures}
-use Rattle.report.specs.declared.{pressure.PressurePeak.PressurePeak, gps.GpsPeak.GpsPeak}
-use Rattle.span.specs.declared.{pressure.PressureSpot.PressureSpot, gps.GpsSpot.GpsSpot}
 use Rattle.total.specs.Total.{Totals}
 use Rattle.text.specs.Spelt.{spelt}
 

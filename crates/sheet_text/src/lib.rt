@@ -1,9 +1,8 @@
 // The season's sheet as text: a block of lines for each log, and one for all of them.
 #![tactic(auto)]
 
-pub mod gps;
+pub mod heights;
 pub mod line;
-pub mod pressure;
 
 ghost use Rattle.put.specs.Put.{Wrote};
 ghost use Rattle.report.specs.Report.{figures_in};
@@ -11,6 +10,7 @@ ghost use Rattle.total.specs.Total.{total_in};
 ghost use Rattle.sheet_text.specs.Sheet.{pressure_peak_line, gps_peak_line, pressure_spot_line, gps_spot_line};
 ghost use Rattle.sheet_text.specs.Sheet.{figure_lines, log_text, all_text};
 
+use crate::heights::put_range;
 use crate::line::{put_counts, put_number, put_times};
 use report::Report;
 use total::Total;
@@ -21,13 +21,10 @@ fn put_report(buf: &mut [u8], at: usize, report: Report) -> usize
         buf.new result }
 {
     let answers = report.answers;
-    let pressure = report.pressure;
-    let gps = report.gps;
-    let times = report.times;
     let at_pressure = put_counts(buf, at, report.lines, answers, report.fixes);
-    let at_gps = pressure::put_range(buf, at_pressure, pressure);
-    let at_times = gps::put_range(buf, at_gps, gps);
-    put_times(buf, at_times, times)
+    let at_gps = put_range(buf, at_pressure, b"pressure", report.pressure);
+    let at_times = put_range(buf, at_gps, b"gps", report.gps);
+    put_times(buf, at_times, report.times)
 }
 
 // The figures of all logs.
@@ -36,13 +33,10 @@ fn put_total(buf: &mut [u8], at: usize, total: Total) -> usize
         buf.new result }
 {
     let answers = total.answers;
-    let pressure = total.pressure;
-    let gps = total.gps;
-    let times = total.times;
     let at_pressure = put_counts(buf, at, total.lines, answers, total.fixes);
-    let at_gps = pressure::put_span(buf, at_pressure, pressure);
-    let at_times = gps::put_span(buf, at_gps, gps);
-    put_times(buf, at_times, times)
+    let at_gps = put_range(buf, at_pressure, b"pressure", total.pressure);
+    let at_times = put_range(buf, at_gps, b"gps", total.gps);
+    put_times(buf, at_times, total.times)
 }
 
 // The block of the log with that number.

@@ -1,12 +1,13 @@
 // Lines of numbers, each behind its words and closed by LF.
 ghost use Rattle.put.specs.Put.{Wrote};
-ghost use Rattle.report.specs.Report.{times_in};
+ghost use Rattle.report.specs.Peak.{range_in};
 ghost use Rattle.sheet_text.specs.Sheet.{number_line, answer_line, answer_lines, count_lines, time_lines, at_place_of};
 ghost use Rattle.sheet_text.specs.Sheet.{at_spot};
 
 use print::number::put_nat;
 use put::{put_byte, put_bytes};
-use report::times::TimeRange;
+use report::peak::TimeRange;
+use report::range::Extremes;
 
 // A number behind its words.
 pub(crate) fn put_number(buf: &mut [u8], at: usize, words: &[u8], n: u64) -> usize
@@ -34,10 +35,8 @@ fn put_answers(buf: &mut [u8], at: usize, answers: [u64; 13]) -> usize
     ensures { Wrote buf.old at (answer_lines 0 answers) buf.new result }
 {
     let mut next = at;
-    let mut i: usize = 0;
-    while i < 13 {
+    for i in 0..13 {
         next = put_answer(buf, next, i as u64, answers[i]);
-        i += 1;
     }
     next
 }
@@ -59,13 +58,13 @@ pub(crate) fn put_counts(
 
 // The earliest time and then the latest.
 pub(crate) fn put_times(buf: &mut [u8], at: usize, times: TimeRange) -> usize
-    ensures { Wrote buf.old at (time_lines (times_in times)) buf.new result }
+    ensures { Wrote buf.old at (time_lines (range_in times)) buf.new result }
 {
     match times {
-        TimeRange::Missing => put_bytes(buf, at, b"time none\n"),
-        TimeRange::Between { latest, earliest } => {
-            let next = put_number(buf, at, b"time first ", earliest as u64);
-            put_number(buf, next, b"time last ", latest as u64)
+        None => put_bytes(buf, at, b"time none\n"),
+        Some(Extremes { high, low }) => {
+            let next = put_number(buf, at, b"time first ", low as u64);
+            put_number(buf, next, b"time last ", high as u64)
         }
     }
 }

@@ -1,5 +1,6 @@
 -- A log taken into a report, from read to read.
-use Rattle.text.specs.Prelude.{ℕ, ◌+◌, ◌≤◌, ◌≡◌, Bool, true, false, not, List, [], ◌++◌, length, take, pick}
+use Rattle.std.specs.Prelude.{Option, Some, None, is_none, Result, Ok, Err}
+use Rattle.text.specs.Prelude.{ℕ, ◌+◌, ◌≤◌, ◌≡◌, Bool, true, false, List, [], ◌++◌, length, take, pick}
 use Rattle.text.specs.Prelude.{◌=?◌, largest}
 use Rattle.text.proofs.Prelude.{arith, refl, sym, ap, ◌∙◌, length-append, first, second, yes≤, no=, is≤, by_test}
 use Rattle.text.proofs.Prelude.{never}
@@ -8,7 +9,8 @@ use Rattle.igc_log.specs.Fold.{over}
 use Rattle.igc_log.proofs.Chunks.{closed_none, closed_append}
 use Rattle.window.specs.Piece.{whole_length_of, piece_end_of}
 use Rattle.window.proofs.Wholes.{whole_closed}
-use Rattle.files.specs.declared.input.Filled.{Filled}
+use Rattle.files.specs.Outcome.{Outcome}
+use Rattle.files.specs.declared.{input.Filled.Filled, input.NotRead.NotRead}
 use Rattle.reported.specs.Reported.{SoFar, figures_on, readings_at, nothing_yet, report_on_of}
 use Rattle.reported.proofs.Pieces.{in_pieces}
 use Rattle.sheets.specs.Sheets.{has_room_of, Onward, stopped, last_turn, take_whole, full_turn, turned, window_after}
@@ -17,12 +19,13 @@ use Rattle.sheets.specs.Sheets.{Goes, FromStart}
 -- ---- a turn
 
 -- where no read is to follow, the window is as it was
-pub unmoved : {more : Bool} (w : List ℕ) → more ≡ false → w ≡ window_after more w
+pub unmoved : (ended : Option Outcome) (w : List ℕ) → is_none ended ≡ false → w ≡ window_after ended w
 unfolding window_after
-unmoved w e = second _ e refl
+unmoved None w e = never refl e
+unmoved (Some o) w e = refl
 
 -- none follows the last piece
-pub last_is_last : (c : SoFar) (lines : List ℕ) → (last_turn c lines).more ≡ false
+pub last_is_last : (c : SoFar) (lines : List ℕ) → is_none (last_turn c lines).ended ≡ false
 unfolding last_turn stopped pick
 last_is_last c lines = by_test (has_room_of c lines) (λ e. rw e) (λ e. rw e)
 
@@ -53,11 +56,6 @@ at_start = record {
 pub goes_last : {c c' : SoFar} {more : Bool} → Goes c c' more → Goes c c' false
 goes_last g = record { bytes = g.bytes; room = g.room; made = g.made; whole = λ h. never h refl }
 
--- and where more is, as the code tests it
-pub goes_more : {c c' : SoFar} {more : Bool} → not more ≡ false → Goes c c' more → Goes c c' true
-goes_more {more = true} h g = g
-goes_more {more = false} h g = never refl h
-
 module _ {c₀ c : SoFar} (g : Goes c₀ c true) where
   -- some lines more were taken
   goes_on : {more : Bool} (s : List ℕ) → has_room_of c s ≡ true → (more ≡ true → closed s ≡ true) →
@@ -76,7 +74,7 @@ module _ {c₀ c : SoFar} (g : Goes c₀ c true) where
 
   -- a turn was made
   abbrev Gone : Onward → Type 0
-  Gone t = Goes c₀ t.sofar t.more
+  Gone t = Goes c₀ t.sofar (is_none t.ended)
 
   gone_last : (lines : List ℕ) → Gone (last_turn c lines)
   unfolding last_turn stopped pick
@@ -100,11 +98,11 @@ module _ {c₀ c : SoFar} (g : Goes c₀ c true) where
       (λ e. rw e (gone_whole w (whole_length_of w) (whole_closed w)))
 
   -- however far the window was filled
-  pub goes_turned : (f : Filled) (w : List ℕ) → Gone (turned f c w)
-  unfolding turned stopped
-  goes_turned (Filled.Ended n) w = gone_last (take n w)
-  goes_turned Filled.Full w = gone_full w
-  goes_turned Filled.Failed w = goes_last g
+  pub goes_turned : (f : Result Filled NotRead) (w : List ℕ) → Gone (turned f c w)
+  unfolding stopped
+  goes_turned (Ok (Filled.Ended n)) w = gone_last (take n w)
+  goes_turned (Ok Filled.Full) w = gone_full w
+  goes_turned (Err e) w = goes_last g
 
 -- from the start
 pub from_start : FromStart

@@ -7,22 +7,23 @@ ghost use Rattle.reported.specs.Reported.{so_far_in, nothing_yet};
 ghost use Rattle.sheets.specs.Sheets.{has_room_of, turn_in, stopped, last_turn, full_turn, turned, window_after, Goes};
 ghost use Rattle.files.specs.Input.{Within};
 
-use files::input::{Filled, read_on};
-use files::outcome::Outcome;
+use files::input::{Filled, NotRead, read_on};
+use files::outcome::{Failure, Outcome};
 use files::system::{Source, System};
 use reported::{Sofar, report_on};
 use window::{keep_rest, piece_end};
 
-// What goes from read to read: the report, how many bytes wait at the window's front, and whether a read is to follow.
+// What goes from read to read: the report, how many bytes wait at the window's front, and how it ended, if no read is
+// to follow.
 #[derive(Clone, Copy)]
 struct Turn {
     sofar: Sofar,
     fill: usize,
-    more: bool,
-    outcome: Outcome,
+    ended: Option<Outcome>,
 }
 
-// The report of the lines that were taken, and how it ended.
+// The report of the lines that were taken, and how it ended. It is no Result: what the lines came to is promised after
+// a failure too.
 #[derive(Clone, Copy)]
 pub struct FileReport {
     pub sofar: Sofar,
@@ -33,7 +34,7 @@ pub struct FileReport {
 fn has_room(sofar: Sofar, lines: &[u8]) -> bool
     ensures { result ≡ has_room_of (so_far_in sofar) lines.now }
 {
-    lines.len() as u64 <= 0xffff_ffff_ffff_ffff - sofar.place
+    lines.len() as u64 <= u64::MAX - sofar.place
 }
 
 fn stop(sofar: Sofar, outcome: Outcome) -> Turn
@@ -42,8 +43,7 @@ fn stop(sofar: Sofar, outcome: Outcome) -> Turn
     Turn {
         sofar,
         fill: 0,
-        more: false,
-        outcome,
+        ended: Some(outcome),
     }
 }
 
@@ -52,44 +52,43 @@ fn finish(sofar: Sofar, lines: &[u8]) -> Turn
     ensures { turn_in result ≡ last_turn (so_far_in sofar) lines.now }
 {
     if !has_room(sofar, lines) {
-        return stop(sofar, Outcome::NotRead);
+        return stop(sofar, Err(Failure::NotRead));
     }
     let taken = report_on(sofar, lines);
-    stop(taken, Outcome::Done)
+    stop(taken, Ok(()))
 }
 
 // A full window: its whole lines are taken, and the rest goes to its front.
 fn drain(sofar: Sofar, win: &mut [u8]) -> Turn
     ensures result_value { turn_in result ≡ full_turn (so_far_in sofar) win.old }
-    ensures win_after { win.new ≡ window_after result.more win.old }
+    ensures win_after { win.new ≡ window_after result.ended win.old }
 {
     let whole = piece_end(win, false);
     if whole == 0 {
-        return stop(sofar, Outcome::LongLine(sofar.report.lines));
+        return stop(sofar, Err(Failure::LongLine(sofar.report.lines)));
     }
     if !has_room(sofar, &win[0..whole]) {
-        return stop(sofar, Outcome::NotRead);
+        return stop(sofar, Err(Failure::NotRead));
     }
     let taken = report_on(sofar, &win[0..whole]);
     let fill = keep_rest(win, whole);
     Turn {
         sofar: taken,
         fill,
-        more: true,
-        outcome: Outcome::Done,
+        ended: None,
     }
 }
 
 // By how far the window was filled: what can be taken of it is.
-fn one_turn(filled: Filled, sofar: Sofar, win: &mut [u8]) -> Turn
+fn one_turn(filled: Result<Filled, NotRead>, sofar: Sofar, win: &mut [u8]) -> Turn
     requires { Within filled win.old }
     ensures result_value { turn_in result ≡ turned filled (so_far_in sofar) win.old }
-    ensures win_after { win.new ≡ window_after result.more win.old }
+    ensures win_after { win.new ≡ window_after result.ended win.old }
 {
     match filled {
-        Filled::Ended(n) => finish(sofar, &win[0..n]),
-        Filled::Full => drain(sofar, win),
-        Filled::Failed => stop(sofar, Outcome::NotRead),
+        Ok(Filled::Ended(n)) => finish(sofar, &win[0..n]),
+        Ok(Filled::Full) => drain(sofar, win),
+        Err(_) => stop(sofar, Err(Failure::NotRead)),
     }
 }
 
@@ -99,20 +98,17 @@ pub fn report_file(sys: &System, from: &Source, win: &mut [u8]) -> FileReport
 {
     let mut sofar = Sofar::new();
     let mut fill = 0;
-    let mut turns: u64 = 0;
-    while turns < 0xffff_ffff_ffff_ffff {
-        turns += 1;
+    for _ in 0..u64::MAX {
         let filled = read_on(sys, from, win, fill);
         let t = one_turn(filled, sofar, win);
         sofar = t.sofar;
         fill = t.fill;
-        if !t.more {
-            let outcome = t.outcome;
+        if let Some(outcome) = t.ended {
             return FileReport { sofar, outcome };
         }
     }
     FileReport {
         sofar,
-        outcome: Outcome::NotRead,
+        outcome: Err(Failure::NotRead),
     }
 }

@@ -1,2 +1,1 @@
-pub mod Fits
-pub mod Answers
+pub mod Fitting

@@ -1,21 +1,20 @@
 -- The heights of one datum over some logs: each with its log, shifted by logs before it, and whether that fits.
-use Rattle.std.specs.Prelude.{◌+◌, ◌∷◌}
+use Rattle.std.specs.Prelude.{◌∷◌}
 use Rattle.text.specs.Prelude.{ℕ, Bool, true, List, [], pick, ◌≤?◌, ◌∧?◌, largest}
 use Rattle.std.specs.Int.Signed.{lt_z}
 use Rattle.report.specs.Range.{Range, none, between}
-use Rattle.report.specs.declared.{pressure.PressurePeak.PressurePeak, gps.GpsPeak.GpsPeak}
-use Rattle.span.specs.declared.{pressure.PressureSpot.PressureSpot, pressure.PressureSpan.PressureSpan}
-use Rattle.span.specs.declared.{gps.GpsSpot.GpsSpot, gps.GpsSpan.GpsSpan}
+use Rattle.report.specs.Peak.{PressurePeak, GpsPeak}
+use Rattle.span.specs.Spot.{PressureSpot, GpsSpot, spot_of, later_spot}
 
 -- ---- heights with their log
 
 -- A pressure height of the log n: its place is log number and byte offset.
-unfoldable pub pressure_spot : ℕ → PressurePeak → PressureSpot
-pressure_spot n p = record { log = n; place = p.place; height = p.height }
+abbrev pub pressure_spot : ℕ → PressurePeak → PressureSpot
+pressure_spot n p = spot_of n p
 
 -- A GPS height of the log n: its place is log number and byte offset.
-unfoldable pub gps_spot : ℕ → GpsPeak → GpsSpot
-gps_spot n p = record { log = n; place = p.place; height = p.height }
+abbrev pub gps_spot : ℕ → GpsPeak → GpsSpot
+gps_spot n p = spot_of n p
 
 -- The first pressure height is the lower, wherever the two were seen.
 unfoldable pub lower_pressure : PressureSpot → PressureSpot → Bool
@@ -33,12 +32,12 @@ mapped f (between high low) = between (f high) (f low)
 -- ---- with logs more before them
 
 -- A pressure height with k logs more before its own.
-unfoldable pub later_pressure : ℕ → PressureSpot → PressureSpot
-later_pressure k s = record { log = k + s.log; place = s.place; height = s.height }
+abbrev pub later_pressure : ℕ → PressureSpot → PressureSpot
+later_pressure k s = later_spot k s
 
 -- A GPS height with k logs more before its own.
-unfoldable pub later_gps : ℕ → GpsSpot → GpsSpot
-later_gps k s = record { log = k + s.log; place = s.place; height = s.height }
+abbrev pub later_gps : ℕ → GpsSpot → GpsSpot
+later_gps k s = later_spot k s
 
 -- Each of some numbers fits 64 bits.
 unfoldable pub all_fit : List ℕ → Bool
@@ -53,13 +52,3 @@ numbers_of number (between high low) = number high ∷ number low ∷ []
 -- What f makes of a range where its log numbers fit 64 bits, else the range as it was.
 unfoldable pub shifted : {P : Type 0} → (P → ℕ) → (P → P) → Range P → Range P
 shifted number f r = pick (all_fit (numbers_of number (mapped f r))) (mapped f r) r
-
--- ---- what the code holds
-
-abbrev pub pressure_over : PressureSpan → Range PressureSpot
-pressure_over PressureSpan.Missing = none
-pressure_over (PressureSpan.Between high low) = between high low
-
-abbrev pub gps_over : GpsSpan → Range GpsSpot
-gps_over GpsSpan.Missing = none
-gps_over (GpsSpan.Between high low) = between high low

@@ -1,5 +1,6 @@
 -- The lines of a window, some of them at a time.
-use Rattle.text.specs.Prelude.{ℕ, ◌+◌, ◌-◌, ◌≤◌, ◌<◌, ◌≡◌, Bool, true, false, not, List, [], ◌++◌, length, take, drop}
+use Rattle.std.specs.Prelude.{Option, Some, None, is_none, Result, Ok, Err, is_err}
+use Rattle.text.specs.Prelude.{ℕ, ◌+◌, ◌-◌, ◌≤◌, ◌<◌, ◌≡◌, Bool, true, false, List, [], ◌++◌, length, take, drop}
 use Rattle.text.proofs.Prelude.{arith, refl, sym, ap, ◌∙◌, length-drop, sets, take_all, never}
 use lib.Seq.{take-add}
 use Rattle.igc_log.proofs.Chunks.{closed_none, closed_append}
@@ -13,8 +14,8 @@ use Rattle.trailer_text.specs.Trailer.{count_step}
 use Rattle.products.specs.Feed.{view, Feeds}
 use Rattle.products.specs.declared.{Product.Product, Carried.Carried, Fed.Fed}
 use Rattle.products.proofs.Feeding.{called}
-use Rattle.files.specs.Outcome.{has_failed_of}
-use Rattle.files.specs.declared.{input.Filled.Filled, outcome.Outcome.Outcome}
+use Rattle.files.specs.Outcome.{Outcome}
+use Rattle.files.specs.declared.{input.Filled.Filled, input.NotRead.NotRead}
 use Rattle.stream.specs.Stream.{Streamed, Goes, Drains, Finished, Turned}
 use Rattle.stream.specs.declared.{Went.Went, Turn.Turn}
 
@@ -34,7 +35,7 @@ module _ {c c' : Carried} {lines : List ℕ} {from : ℕ} (f : Streaming c lines
   }
 
   -- it stopped, for a reason
-  pub stopped : {o : Outcome} → has_failed_of o ≡ true →
+  pub stopped : {o : Outcome} → is_err o ≡ true →
       Streamed c lines (record { carried = c'; taken = from; outcome = o })
   stopped e = record { inside = f.inside; whole = f.whole; carried = f.made; all = λ d. never e d }
 
@@ -67,10 +68,9 @@ goes_nowhere {c} = record { bytes = []; made = sym (fed_none reader count_step (
 pub goes_last_of : {c c' : Carried} {more : Bool} → Goes c c' more → Goes c c' false
 goes_last_of f = record { bytes = f.bytes; made = f.made; whole = λ h. never h refl }
 
--- and where more is, as the code tests it
-pub goes_more : {c c' : Carried} {more : Bool} → not more ≡ false → Goes c c' more → Goes c c' true
-goes_more {more = true} h f = f
-goes_more {more = false} h f = never refl h
+-- and where a read is to follow
+pub goes_more : {c c' : Carried} {e : Option Outcome} → e ≡ None → Goes c c' (is_none e) → Goes c c' true
+goes_more h f = rw h at f
 
 -- some bytes went, and then others
 pub goes_on : {c₀ c c' : Carried} {more : Bool} → Goes c₀ c true → Goes c c' more → Goes c₀ c' more
@@ -88,20 +88,20 @@ module _ {c : Carried} {lines : List ℕ} {w : Went} (f : Streamed c lines w) wh
   goes_last = record { bytes = take w.taken lines; made = f.carried; whole = λ h. never h refl }
 
   -- where nothing went wrong that is all of them
-  pub all_made : has_failed_of w.outcome ≡ false → view w.carried ≡ fed reader count_step (view c) lines
+  pub all_made : is_err w.outcome ≡ false → view w.carried ≡ fed reader count_step (view c) lines
   all_made h = f.carried ∙ ap (fed reader count_step (view c)) (take_all w.taken lines (omega (arith, f.all h)))
 
   -- the end, with an outcome that is good only if all of them went
-  pub finished : {o : Outcome} {r : Turn} → (has_failed_of o ≡ false → has_failed_of w.outcome ≡ false) →
-      r ≡ record { carried = w.carried; fill = 0; more = false; outcome = o } →
-      Goes c r.carried r.more × Finished c lines r
-  finished h e = rw e (goes_last, record { last = refl; made = λ d. all_made (h d) })
+  pub finished : {o : Outcome} {r : Turn} → (is_err o ≡ false → is_err w.outcome ≡ false) →
+      r ≡ record { carried = w.carried; fill = 0; ended = Some o } →
+      Goes c r.carried (is_none r.ended) × Finished c lines r
+  finished {o} h e = rw e (goes_last, record { outcome = o; last = refl; made = λ d. all_made (h d) })
 
 -- a full window: all its whole lines went, and the rest was kept
-pub drained : {c : Carried} {win win' : List ℕ} {w : Went} {n fill : ℕ} {o : Outcome} → n ≡ piece_end_of false win →
-    Streamed c (take (n - 0) win) w → has_failed_of w.outcome ≡ false → fill ≡ length win - n →
+pub drained : {c : Carried} {win win' : List ℕ} {w : Went} {n fill : ℕ} → n ≡ piece_end_of false win →
+    Streamed c (take (n - 0) win) w → is_err w.outcome ≡ false → fill ≡ length win - n →
     win' ≡ sets win 0 (drop n win) →
-    Drains c win win' (record { carried = w.carried; fill = fill; more = true; outcome = o })
+    Drains c win win' (record { carried = w.carried; fill = fill; ended = None })
 unfolding piece_end_of
 drained {c} {win} {w} {n} e f h k l =
     let z : n - 0 ≡ piece_end_of false win = omega (arith, e) in
@@ -112,8 +112,8 @@ drained {c} {win} {w} {n} e f h k l =
     )
 
 -- a turn, however far the window was filled
-pub goes_turned : (f : Filled) (c : Carried) (win win' : List ℕ) (r : Turn) → Turned f c win win' r →
-    Goes c r.carried r.more
-goes_turned (Filled.Ended n) c win win' r t = t.0
-goes_turned Filled.Full c win win' r t = t.0
-goes_turned Filled.Failed c win win' r t = rw t goes_nowhere
+pub goes_turned : (f : Result Filled NotRead) (c : Carried) (win win' : List ℕ) (r : Turn) → Turned f c win win' r →
+    Goes c r.carried (is_none r.ended)
+goes_turned (Ok (Filled.Ended n)) c win win' r t = t.0
+goes_turned (Ok Filled.Full) c win win' r t = t.0
+goes_turned (Err e) c win win' r t = rw t goes_nowhere

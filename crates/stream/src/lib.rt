@@ -2,18 +2,19 @@
 // the rest waits for the next read.
 #![tactic(auto)]
 
-ghost use Rattle.std.specs.Prelude.{◌≡◌, false};
+ghost use Rattle.std.specs.Prelude.{◌≡◌, false, Some, is_none};
 ghost use Rattle.products.specs.Feed.{at_first_of};
 ghost use Rattle.stream.specs.Stream.{Streamed, Goes, Drains, Finished, Turned};
 ghost use Rattle.files.specs.Input.{Within};
 
-use files::input::{Filled, read_on};
-use files::outcome::{Outcome, write_text};
+use files::input::{Filled, NotRead, read_on};
+use files::outcome::{Failure, Outcome, write_text};
 use files::system::{Sink, Source, System};
 use products::{Carried, Product, new, put_closing, put_lines};
 use window::{keep_rest, piece_end};
 
-// What is carried on, how many bytes were written, and what went wrong.
+// What is carried on, how many bytes were written, and what went wrong. It is no `Result`, since what is carried is
+// needed after a failure too.
 #[derive(Clone, Copy)]
 struct Went {
     carried: Carried,
@@ -21,17 +22,16 @@ struct Went {
     outcome: Outcome,
 }
 
-// What goes from read to read: what is carried, how many bytes wait at the window's front, and whether a read is to
-// follow.
+// What goes from read to read: what is carried, how many bytes wait at the window's front, and how it ended, if no read
+// is to follow.
 #[derive(Clone, Copy)]
 struct Turn {
     carried: Carried,
     fill: usize,
-    more: bool,
-    outcome: Outcome,
+    ended: Option<Outcome>,
 }
 
-// What was carried at last, and how it ended.
+// What was carried at last, and how it ended. It is no `Result`, since what was carried is needed after a failure too.
 #[derive(Clone, Copy)]
 pub struct Ended {
     pub carried: Carried,
@@ -52,6 +52,7 @@ fn write_lines(
 {
     let mut carried = c;
     let mut from = 0;
+    // A `while`, since it steps by what a call takes.
     while from < lines.len() {
         let fed = put_lines(product, carried, &lines[from..], names, out);
         let taken = fed.taken;
@@ -60,11 +61,11 @@ fn write_lines(
             return Went {
                 carried,
                 taken: from,
-                outcome: Outcome::NoRoom(carried.at.number),
+                outcome: Err(Failure::NoRoom(carried.at.number)),
             };
         }
         let outcome = write_text(sys, to, &mut out[0..end]);
-        if outcome.has_failed() {
+        if outcome.is_err() {
             return Went {
                 carried,
                 taken: from,
@@ -77,7 +78,7 @@ fn write_lines(
     Went {
         carried,
         taken: from,
-        outcome: Outcome::Done,
+        outcome: Ok(()),
     }
 }
 
@@ -85,7 +86,7 @@ fn write_lines(
 fn write_closing(sys: &System, product: Product, c: Carried, to: Sink, out: &mut [u8]) -> Outcome {
     let end = put_closing(out, 0, product, c);
     if out.len() < end {
-        return Outcome::NoRoom(c.at.number);
+        return Err(Failure::NoRoom(c.at.number));
     }
     write_text(sys, to, &mut out[0..end])
 }
@@ -100,12 +101,12 @@ fn finish(
     to: Sink,
     out: &mut [u8],
 ) -> Turn
-    ensures { Goes c result.carried result.more × Finished c lines.now result }
+    ensures { Goes c result.carried (is_none result.ended) × Finished c lines.now result }
 {
     let went = write_lines(sys, product, c, lines, names, to, out);
     let carried = went.carried;
     let outcome = went.outcome;
-    if outcome.has_failed() {
+    if outcome.is_err() {
         return stop(carried, outcome);
     }
     let closed = write_closing(sys, product, carried, to, out);
@@ -113,13 +114,12 @@ fn finish(
 }
 
 fn stop(carried: Carried, outcome: Outcome) -> Turn
-    ensures { result ≡ record { carried = carried; fill = 0; more = false; outcome = outcome } }
+    ensures { result ≡ record { carried = carried; fill = 0; ended = Some outcome } }
 {
     Turn {
         carried,
         fill: 0,
-        more: false,
-        outcome,
+        ended: Some(outcome),
     }
 }
 
@@ -137,27 +137,26 @@ fn drain(
 {
     let whole = piece_end(win, false);
     if whole == 0 {
-        return stop(c, Outcome::LongLine(c.at.number));
+        return stop(c, Err(Failure::LongLine(c.at.number)));
     }
     let went = write_lines(sys, product, c, &win[0..whole], names, to, out);
     let carried = went.carried;
     let outcome = went.outcome;
-    if outcome.has_failed() {
+    if outcome.is_err() {
         return stop(carried, outcome);
     }
     let fill = keep_rest(win, whole);
     Turn {
         carried,
         fill,
-        more: true,
-        outcome,
+        ended: None,
     }
 }
 
 // By how far the window was filled: what can be written of it is.
 fn one_turn(
     sys: &System,
-    filled: Filled,
+    filled: Result<Filled, NotRead>,
     product: Product,
     carried: Carried,
     win: &mut [u8],
@@ -169,9 +168,9 @@ fn one_turn(
     ensures { Turned filled carried win.old win.new result }
 {
     match filled {
-        Filled::Ended(n) => finish(sys, product, carried, &win[0..n], names, to, out),
-        Filled::Full => drain(sys, product, carried, win, names, to, out),
-        Filled::Failed => stop(carried, Outcome::NotRead),
+        Ok(Filled::Ended(n)) => finish(sys, product, carried, &win[0..n], names, to, out),
+        Ok(Filled::Full) => drain(sys, product, carried, win, names, to, out),
+        Err(_) => stop(carried, Err(Failure::NotRead)),
     }
 }
 
@@ -189,20 +188,17 @@ pub fn run(
 {
     let mut carried = new();
     let mut fill = 0;
-    let mut turns: u64 = 0;
-    while turns < 0xffff_ffff_ffff_ffff {
-        turns += 1;
+    for _ in 0..u64::MAX {
         let filled = read_on(sys, from, win, fill);
         let t = one_turn(sys, filled, product, carried, win, names, to, out);
         carried = t.carried;
         fill = t.fill;
-        if !t.more {
-            let outcome = t.outcome;
+        if let Some(outcome) = t.ended {
             return Ended { carried, outcome };
         }
     }
     Ended {
         carried,
-        outcome: Outcome::NotRead,
+        outcome: Err(Failure::NotRead),
     }
 }

@@ -1,9 +1,9 @@
 -- Definitions in turn: the loops that read them and put them.
 use Rattle.text.specs.Prelude.{ℕ, suc, ◌+◌, ◌-◌, ◌*◌, ◌≤◌, ◌<◌, min, ◌≡◌, Bool, true, false, List, [], ◌∷◌, ◌++◌, map}
-use Rattle.text.specs.Prelude.{length, take, drop, get_or, set, replicate, Res, ok, no, bind, moved, moved_by, cut}
+use Rattle.text.specs.Prelude.{length, take, drop, get_or, set, replicate, Res, ok, no, bind, moved, cut}
 use Rattle.text.specs.Prelude.{columns}
 use Rattle.text.proofs.Prelude.{arith, refl, sym, ap, ◌∙◌, append-nil, append_assoc, length-append, take_all, drop-drop}
-use Rattle.text.proofs.Prelude.{off, found_in, refused_in, moved_twice}
+use Rattle.text.proofs.Prelude.{off, moved_twice}
 use native.Mathlib.Nat.{add-zero, add-sub_cancel_left}
 use native.Mathlib.Numerals.{add-one}
 use lib.Dec.{leb}
@@ -17,7 +17,7 @@ use Rattle.put.proofs.Writing.{then}
 use Rattle.extension.specs.Extension.{read_extension, extension_text}
 use Rattle.table.specs.Table.{empty, table_of, read_defs, defs_text, table_read}
 use Rattle.extension.specs.declared.Extension.{Extension}
-use Rattle.table.specs.declared.{Verdict.TheVariants.Accepted, TableRead.TableRead}
+use Rattle.table.specs.declared.Table.{Table}
 
 -- ---- reading
 
@@ -90,12 +90,12 @@ module _ (s : List ℕ) (n i : ℕ) (defs : List Extension) (t : Turn s n i defs
   part : take (at + 7 - at) (drop at s) ≡ take 7 (drop at s)
   part = ap (λ (k : ℕ). take k (drop at s)) (add-sub_cancel_left at 7)
 
-  pub turn_refuses : {b r : Refusal} → no b ≡ read_extension (take (at + 7 - at) (drop at s)) → r ≡ moved_by at b →
-      no r ≡ columns 3 (length s) (read_defs n) s
+  pub turn_refuses : {b : Refusal} → no b ≡ moved at (read_extension (take (at + 7 - at) (drop at s))) →
+      no b ≡ columns 3 (length s) (read_defs n) s
   unfolding defs_behind
-  turn_refuses h e = off _ (off _ (refused_in at (h ∙ ap read_extension part) e)) ∙ rest
+  turn_refuses h = off _ (off _ (h ∙ ap (λ d. moved at (read_extension d)) part)) ∙ rest
 
-  pub turn_next : n ≤ 99 → {e : Extension} → ok e ≡ read_extension (take (at + 7 - at) (drop at s)) →
+  pub turn_next : n ≤ 99 → {e : Extension} → ok e ≡ moved at (read_extension (take (at + 7 - at) (drop at s))) →
       Turn s n (i + 1) (set defs i e)
   unfolding bind
   turn_next fits {e} h =
@@ -112,15 +112,14 @@ module _ (s : List ℕ) (n i : ℕ) (defs : List Extension) (t : Turn s n i defs
             ∙ sym (append_assoc t.p (e ∷ []) (replicate (99 - (i + 1)) empty));
         left = rw d (sym (behind_one t.p e others)
             ∙ ap (λ m. defs_behind t.p (bind m (λ e. bind others (λ es. ok (e ∷ es)))))
-            (found_in at (h ∙ ap read_extension part)) ∙ rest);
+            (h ∙ ap (λ d. moved at (read_extension d)) part) ∙ rest);
       }
 
-held_as : ℕ → List Extension → TableRead
-held_as n defs = record { table = record { defs = defs; count = n }; verdict = Accepted }
+held_as : ℕ → List Extension → Res Table
+held_as n defs = ok (record { defs = defs; count = n })
 
 pub turn_done : (s : List ℕ) (n i : ℕ) (defs : List Extension) → Turn s n i defs → n ≤ i →
-    record { table = record { defs = defs; count = n }; verdict = Accepted }
-    ≡ table_read (columns 3 (length s) (read_defs n) s)
+    ok (record { defs = defs; count = n }) ≡ table_read (columns 3 (length s) (read_defs n) s)
 unfolding table_read table_of read_defs defs_behind bind moved held_as
 turn_done s n i defs t end =
     let z : n - i ≡ 0 = omega (arith, t.inside) in

@@ -1,13 +1,12 @@
 -- The body of I and J lines: a table of up to 99 definitions.
 use Rattle.std.specs.Prelude.{◌+◌, ◌-◌, ◌*◌, ◌∷◌, ◌++◌}
 use Rattle.text.specs.Prelude.{ℕ, zero, suc, code, Bool, List, [], length, take, replicate}
-use Rattle.text.specs.Prelude.{Res, ok, no, bind, guard, ◌≤?◌, ◌=?◌, ◌∨?◌, byte, columns, read_nat_of, padded}
+use Rattle.text.specs.Prelude.{Res, ok, bind, guard, ◌≤?◌, ◌=?◌, ◌∨?◌, byte, columns, read_nat_of, padded}
 use Rattle.text.specs.declared.refusal.Refusal.TheVariants.{Syntax, BadExtension}
 use Rattle.field.specs.Field.{ascii}
 use Rattle.extension.specs.Extension.{read_extension, extension_text}
 use Rattle.extension.specs.declared.Extension.{Extension}
-use Rattle.table.specs.declared.{Table.Table, TableRead.TableRead}
-use Rattle.table.specs.declared.Verdict.TheVariants.{Accepted, Refused}
+use Rattle.table.specs.declared.{Table.Table}
 
 -- The slot that holds no definition.
 abbrev pub empty : Extension
@@ -57,9 +56,6 @@ table_body letter t = (letter ∷ []) ++ (padded 2 t.count ++ defs_text (defs_of
 unfoldable pub table_text : ℕ → Table → Res (List ℕ)
 table_text letter t = guard (t.count ≤? 99) BadExtension (ok (table_body letter t))
 
--- ---- the answers of the code
-
--- The table that was read and the verdict beside it; a refusal comes with no definitions.
-unfoldable pub table_read : Res (List Extension) → TableRead
-table_read (ok ds) = record { table = table_of ds; verdict = Accepted }
-table_read (no n) = record { table = table_of []; verdict = Refused n }
+-- The table of the definitions that were read.
+unfoldable pub table_read : Res (List Extension) → Res Table
+table_read m = bind m (λ ds. ok (table_of ds))

@@ -2,61 +2,38 @@
 // value.
 #![tactic(auto)]
 
-ghost use Rattle.std.specs.Prelude.{◌≡◌, [], ◌+◌, ◌*◌, ◌≤◌, min, length};
-ghost use Rattle.text.specs.Res.{no};
+ghost use Rattle.std.specs.Prelude.{◌≡◌, [], ◌+◌, ◌*◌, ◌≤◌, length};
 ghost use Rattle.text.specs.Line.{columns};
 ghost use Rattle.put.specs.Put.{Wrote};
 ghost use Rattle.print.specs.Print.{Prints};
 ghost use Rattle.table.specs.Table.{table_of, read_defs, is_table_of, read_table, defs_of, defs_text, table_body};
-ghost use Rattle.table.specs.Table.{table_text};
-ghost use Rattle.table.specs.Table.{table_read};
+ghost use Rattle.table.specs.Table.{table_text, table_read};
 
-use extension::{Extension, ExtensionRead};
+use extension::Extension;
 use field::{Mnemonic, is_ascii};
 use print::number::put_nat;
-use print::printed::Printed;
+use print::printed::{Piece, print_piece};
 use put::put_byte;
-use text::number::{U8Read, read_u8};
-use text::refusal::Refusal;
+use text::number::read_u8;
+use text::refusal::{Refusal, counted_from};
 
+// An array with a count, since the project has no heap.
 #[derive(Clone, Copy)]
 pub struct Table {
     pub defs: [Extension; 99],
     pub count: u8,
 }
 
-#[derive(Clone, Copy)]
-pub enum Verdict {
-    Accepted,
-    Refused(Refusal),
-}
-
-// The verdict stands beside the table: an enum holds no array.
-#[derive(Clone, Copy)]
-pub struct TableRead {
-    pub table: Table,
-    pub verdict: Verdict,
-}
-
-// How many of the 99 slots count.
-fn at_most_99(n: u8) -> usize
-    ensures { result ≡ min n 99 }
-{
-    if n < 99 { n as usize } else { 99 }
-}
-
 // I or J.
 fn is_table(letter: u8) -> bool
     ensures { result ≡ is_table_of letter }
 {
-    if letter == b'I' {
-        return true;
-    }
-    letter == b'J'
+    letter == b'I' || letter == b'J'
 }
 
 impl Table {
     // 99 empty slots.
+    #[tactic(auto, unfolding(crate::specs::Table::table_of))]
     pub fn new() -> Table
         ensures { result ≡ table_of [] }
     {
@@ -71,83 +48,50 @@ impl Table {
         }
     }
 
-    fn refused(n: Refusal) -> TableRead
-        ensures { result ≡ table_read (no n) }
-    {
-        let table = Table::new();
-        TableRead {
-            table,
-            verdict: Verdict::Refused(n),
-        }
-    }
-
     // The n definitions of a line, in turn.
-    fn parse_defs(line: &[u8], n: u8) -> TableRead
+    fn parse_defs(line: &[u8], n: u8) -> Result<Table, Refusal>
         requires { (n ≤ 99) × (length line.now ≡ 3 + 7 * n) }
         ensures { result ≡ table_read (columns 3 (length line.now) (read_defs n) line.now) }
     {
-        let none = Table::new();
-        let mut table = none;
-        let k = n as usize;
-        let mut i: usize = 0;
-        while i < k {
+        let mut table = Table::new();
+        for i in 0..n as usize {
             let at = 3 + i * 7;
             let to = at + 7;
-            match Extension::parse(&line[at..to]) {
-                ExtensionRead::Ok(def) => {
-                    table.defs[i] = def;
-                }
-                ExtensionRead::Refused(bad) => {
-                    return TableRead {
-                        table: none,
-                        verdict: Verdict::Refused(bad.moved(at)),
-                    };
-                }
-            }
-            i += 1;
+            let def = counted_from(at, Extension::parse(&line[at..to]))?;
+            table.defs[i] = def;
         }
         table.count = n;
-        TableRead {
-            table,
-            verdict: Verdict::Accepted,
-        }
+        Ok(table)
     }
 
     // The definitions of an I or a J line.
-    pub fn parse(line: &[u8]) -> TableRead
+    pub fn parse(line: &[u8]) -> Result<Table, Refusal>
         ensures { result ≡ table_read (read_table line.now) }
     {
         if line.len() < 3 {
-            return Table::refused(Refusal::Syntax);
+            return Err(Refusal::Syntax);
         }
         if !is_table(line[0]) {
-            return Table::refused(Refusal::Syntax);
+            return Err(Refusal::Syntax);
         }
         if !is_ascii(line) {
-            return Table::refused(Refusal::NotAscii);
+            return Err(Refusal::NotAscii);
         }
-        match read_u8(&line[1..3]) {
-            U8Read::Ok(count) => {
-                if line.len() != 3 + 7 * count as usize {
-                    return Table::refused(Refusal::Syntax);
-                }
-                Table::parse_defs(line, count)
-            }
-            U8Read::Refused(no_count) => Table::refused(no_count.moved(1)),
+        let count = counted_from(1, read_u8(&line[1..3]))?;
+        if line.len() != 3 + 7 * count as usize {
+            return Err(Refusal::Syntax);
         }
+        Table::parse_defs(line, count)
     }
 
     // The definitions that count, one after the other.
     fn put_defs(self, buf: &mut [u8], at: usize) -> usize
         ensures { Wrote buf.old at (defs_text (defs_of self)) buf.new result }
     {
-        let n = at_most_99(self.count);
+        let n = (self.count as usize).min(99);
         let mut next = at;
-        let mut i = 0;
-        while i < n {
-            let def = self.defs[i];
+        for def in &self.defs[..n] {
             next = def.put(buf, next);
-            i += 1;
         }
         next
     }
@@ -162,15 +106,33 @@ impl Table {
     }
 
     // Prints an I or a J line.
-    pub fn print(self, letter: u8, buf: &mut [u8]) -> Printed
+    pub fn print(self, letter: u8, buf: &mut [u8]) -> Result<usize, Refusal>
         ensures { Prints (table_text letter self) buf.old buf.new result }
     {
         if 99 < self.count {
-            return Printed::Refused(Refusal::BadExtension);
+            return Err(Refusal::BadExtension);
         }
-        if buf.len() < self.put_piece(&mut [], 0, letter) {
-            return Printed::Refused(Refusal::NoRoom);
-        }
-        Printed::Written(self.put_piece(buf, 0, letter))
+        print_piece(
+            Lettered {
+                table: self,
+                letter,
+            },
+            buf,
+        )
+    }
+}
+
+// A table and the letter of its line.
+#[derive(Clone, Copy)]
+struct Lettered {
+    table: Table,
+    letter: u8,
+}
+
+impl Piece for Lettered {
+    ghost text = { λ l. table_body l.letter l.table };
+
+    fn put(self, buf: &mut [u8], at: usize) -> usize {
+        self.table.put_piece(buf, at, self.letter)
     }
 }

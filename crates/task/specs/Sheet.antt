@@ -1,13 +1,14 @@
 -- A task's sheet, what a printer of it answers, and what that leaves in the lent bytes.
+use Rattle.text.specs.Prelude.{no, ok}
+use Rattle.std.specs.Prelude.{Option, Some, None, Result}
 use Rattle.std.specs.Prelude.{◌+◌, ◌≡◌, ◌∷◌, ◌++◌}
 use Rattle.text.specs.Prelude.{ℕ, zero, suc, Bool, true, false, List, [], length, drop, pick}
 use Rattle.text.specs.Prelude.{ℤ, pos, negsuc, ◌≤?◌}
 use Rattle.task_line.specs.Lines.{TaskLine, declaration, point, other, task_lines}
 use Rattle.task_text.specs.Points.{points_text}
-use Rattle.task.specs.declared.{lines.Declared.Declared, points.Size.Size}
-use Rattle.task.specs.declared.{TaskRefusal.TaskRefusal, TaskPrinted.TaskPrinted}
+use Rattle.task.specs.declared.lines.Declared.{Declared}
+use Rattle.task.specs.declared.{TaskRefusal.TaskRefusal}
 use Rattle.task.specs.declared.TaskRefusal.TheVariants.{NoDeclaration, NegativeCount, Interrupted, NoRoom}
-use Rattle.task.specs.declared.TaskPrinted.TheVariants.{Written, Refused}
 
 -- ---- the task
 
@@ -55,9 +56,9 @@ sheet_of log labels = sheet_after labels (first_declaration (task_lines log))
 -- ---- printing it
 
 -- The length written; the sheet's own refusal first, then 10 exactly where it is longer than the bytes lent.
-unfoldable pub answer_to : Sheet → List ℕ → TaskPrinted
-answer_to (sheet t) b = pick (length t ≤? length b) (Written (length t)) (Refused NoRoom)
-answer_to (refused n) b = Refused n
+unfoldable pub answer_to : Sheet → List ℕ → Result ℕ TaskRefusal
+answer_to (sheet t) b = pick (length t ≤? length b) (ok (length t)) (no NoRoom)
+answer_to (refused n) b = no n
 
 -- The bytes afterwards: the sheet and then what stood behind it; a refused call changes nothing.
 unfoldable pub left_by : Sheet → List ℕ → List ℕ
@@ -65,7 +66,7 @@ left_by (sheet t) b = pick (length t ≤? length b) (t ++ drop (length t) b) b
 left_by (refused n) b = b
 
 -- A printer of a sheet answers r and leaves b' where b was lent.
-pub record PrintsSheet (m : Sheet) (b b' : List ℕ) (r : TaskPrinted) : Type 0 where
+pub record PrintsSheet (m : Sheet) (b b' : List ℕ) (r : (Result ℕ TaskRefusal)) : Type 0 where
   pub answer : r ≡ answer_to m b
   pub left : b' ≡ left_by m b
 
@@ -79,11 +80,11 @@ task_number NoRoom = 10
 -- ---- the answers of the code
 
 -- A declaration's count, and the lines from the next place on.
-abbrev pub declared_in : List ℕ → Declared → Task
-declared_in log Declared.Missing = missing
-declared_in log (Declared.At count next) = declared count (task_lines (drop next log))
+abbrev pub declared_in : List ℕ → Option Declared → Task
+declared_in log None = missing
+declared_in log (Some d) = declared d.count (task_lines (drop d.next log))
 
 -- How many points a count asks for.
-unfoldable pub size_of : ℤ → Size
-size_of (pos count) = Size.Points (count + 4)
-size_of (negsuc k) = Size.Negative
+unfoldable pub size_of : ℤ → Result ℕ TaskRefusal
+size_of (pos count) = ok (count + 4)
+size_of (negsuc k) = no NegativeCount

@@ -8,8 +8,8 @@ ghost use Rattle.std.specs.Prelude.{◌≡◌, drop};
 ghost use Rattle.task_line.specs.Lines.{task_lines};
 ghost use Rattle.task.specs.Sheet.{sheet_of, sheet_from, task_number, PrintsSheet};
 
-use crate::lines::{Declared, find_declaration};
-use crate::points::{Size, are_points, size_of};
+use crate::lines::find_declaration;
+use crate::points::{are_points, size_of};
 use task_text::put_points;
 
 // Why there is no sheet: no declaration, a negative count, points that are too few or interrupted, or lent bytes that
@@ -20,13 +20,6 @@ pub enum TaskRefusal {
     NegativeCount,
     Interrupted,
     NoRoom,
-}
-
-// The length written, or the refusal.
-#[derive(Clone, Copy)]
-pub enum TaskPrinted {
-    Written(usize),
-    Refused(TaskRefusal),
 }
 
 impl TaskRefusal {
@@ -50,31 +43,29 @@ fn print_points<'a>(
     from: usize,
     points: usize,
     buf: &mut [u8],
-) -> TaskPrinted
+) -> Result<usize, TaskRefusal>
     ensures { PrintsSheet
         (sheet_from labels.now points (task_lines (drop from log.now)))
         buf.old buf.new result }
 {
     if !are_points(log, from, points) {
-        return TaskPrinted::Refused(TaskRefusal::Interrupted);
+        return Err(TaskRefusal::Interrupted);
     }
     if buf.len() < put_points(&mut [], 0, log, labels, from, points) {
-        return TaskPrinted::Refused(TaskRefusal::NoRoom);
+        return Err(TaskRefusal::NoRoom);
     }
-    TaskPrinted::Written(put_points(buf, 0, log, labels, from, points))
+    Ok(put_points(buf, 0, log, labels, from, points))
 }
 
 // Prints the sheet of a log, its points without a name labelled by the lines of `labels`. Where there is no sheet, or
 // no room for it, the lent bytes stay as they were.
-pub fn print_task<'a>(log: &'a [u8], labels: &'a [u8], buf: &mut [u8]) -> TaskPrinted
+pub fn print_task<'a>(log: &'a [u8], labels: &'a [u8], buf: &mut [u8]) -> Result<usize, TaskRefusal>
     ensures { PrintsSheet (sheet_of log.now labels.now)
         buf.old buf.new result }
 {
-    match find_declaration(log, 0) {
-        Declared::Missing => TaskPrinted::Refused(TaskRefusal::NoDeclaration),
-        Declared::At { count, next } => match size_of(count) {
-            Size::Negative => TaskPrinted::Refused(TaskRefusal::NegativeCount),
-            Size::Points(points) => print_points(log, labels, next, points, buf),
-        },
-    }
+    let Some(task) = find_declaration(log, 0) else {
+        return Err(TaskRefusal::NoDeclaration);
+    };
+    let points = size_of(task.count)?;
+    print_points(log, labels, task.next, points, buf)
 }

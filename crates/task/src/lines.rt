@@ -7,24 +7,24 @@ use task_line::{Kind, line_at};
 
 // A declaration's count, and the place after its line.
 #[derive(Clone, Copy)]
-pub enum Declared {
-    Missing,
-    At { count: i8, next: usize },
+pub struct Declared {
+    pub count: i8,
+    pub next: usize,
 }
 
 // The first declaration from a place on.
-pub(crate) fn find_declaration(log: &[u8], from: usize) -> Declared
+pub(crate) fn find_declaration(log: &[u8], from: usize) -> Option<Declared>
     ensures { declared_in log.now result ≡ first_declaration (task_lines (drop from log.now)) }
 {
     let mut place = from;
+    // Each line says where the next one begins: no index is counted.
     while place < log.len() {
         let seen = line_at(log, place);
-        let kind = seen.kind;
         let next = seen.next;
-        if let Kind::Declaration(count) = kind {
-            return Declared::At { count, next };
+        if let Kind::Declaration(count) = seen.kind {
+            return Some(Declared { count, next });
         }
         place = next;
     }
-    Declared::Missing
+    None
 }

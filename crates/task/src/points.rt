@@ -3,23 +3,17 @@ ghost use Rattle.std.specs.Prelude.{◌≡◌, drop};
 ghost use Rattle.task_line.specs.Lines.{task_lines};
 ghost use Rattle.task.specs.Sheet.{are_points_of, size_of};
 
+use crate::TaskRefusal;
 use task_line::{Kind, line_at};
 
-// How many points a count asks for.
-#[derive(Clone, Copy)]
-pub enum Size {
-    Negative,
-    Points(usize),
-}
-
 // Takeoff, start, so many turns, finish and landing.
-pub(crate) fn size_of(count: i8) -> Size
+pub(crate) fn size_of(count: i8) -> Result<usize, TaskRefusal>
     ensures { result ≡ size_of count }
 {
     if count < 0 {
-        return Size::Negative;
+        return Err(TaskRefusal::NegativeCount);
     }
-    Size::Points(count as usize + 4)
+    Ok(count as usize + 4)
 }
 
 // Whether the lines from a place on are points, as many as that.
@@ -27,19 +21,15 @@ pub(crate) fn are_points(log: &[u8], from: usize, points: usize) -> bool
     ensures { result ≡ are_points_of points (task_lines (drop from log.now)) }
 {
     let mut place = from;
-    let mut left = points;
-    while 0 < left {
+    for _ in 0..points {
         if log.len() <= place {
             return false;
         }
         let seen = line_at(log, place);
-        let kind = seen.kind;
-        let next = seen.next;
-        let Kind::Point(_) = kind else {
+        let Kind::Point(_) = seen.kind else {
             return false;
         };
-        place = next;
-        left -= 1;
+        place = seen.next;
     }
     true
 }

@@ -1,18 +1,19 @@
 -- The lines of a log from a place on: the one that is seen there, and those from the next place on.
+use Rattle.records.specs.declared.Record.{Record}
+use Rattle.text.specs.Prelude.{Res}
 use Rattle.text.specs.Prelude.{ℕ, ◌+◌, ◌<◌, ◌≡◌, List, [], ◌∷◌, map, length, drop}
 use mathlib.Core.Path.{refl, ap, ◌∙◌}
 use Rattle.part.specs.Part.{part_bytes}
-use Rattle.records.specs.Record.{read_line_of, reading_res}
-use Rattle.records.specs.declared.Reading.{Reading}
+use Rattle.records.specs.Record.{read_line_of}
 use Rattle.igc_log.specs.Line.{line_text}
 use Rattle.igc_log.specs.Log.{chunks, read_from, readings}
 use Rattle.igc_log.specs.declared.Cut.{Cut}
-use Rattle.ahead.specs.Ahead.{cut_bytes, Ahead}
+use Rattle.ahead.specs.Ahead.{Ahead}
 use Rattle.held.specs.Tables.{tables_after}
 use Rattle.held.specs.declared.tables.Tables.{Tables}
 use Rattle.walk.specs.Readings.{LineReading, reader}
 use Rattle.task_line.specs.Lines.{TaskLine, answer_kind, line_of, task_lines, seen_at, Sees}
-use Rattle.task_line.specs.declared.{Kind.Kind, Seen.Seen}
+use Rattle.task_line.specs.declared.{Kind.Kind}
 
 abbrev pub seen : LineReading → TaskLine
 seen x = line_of (answer_kind x.answer) x.line
@@ -34,8 +35,8 @@ one_left s r {c} e =
     rw e (ap (λ ls. line_of (answer_kind (read_line_of (line_text c))) (line_text c) ∷ ls)
     (alike (0 + 1) 0 (0 + length c) 0 (tables_after reader.start (line_text c)) reader.start (chunks r)))
 
-module _ (s : List ℕ) (at : ℕ) {c : Cut} {l : List ℕ} {k : Kind} (m : Reading) (a : Ahead s at c)
-    (v : l ≡ part_bytes c.line s) (r : reading_res m ≡ read_line_of l) (i : k ≡ answer_kind (reading_res m)) where
+module _ (s : List ℕ) (at : ℕ) {c : Cut} {l : List ℕ} {k : Kind} (m : (Res Record)) (a : Ahead s at c)
+    (v : l ≡ part_bytes c.line s) (r : m ≡ read_line_of l) (i : k ≡ answer_kind m) where
   kind_is : k ≡ answer_kind (read_line_of (part_bytes c.line s))
   kind_is = i ∙ rw (r, v)
 

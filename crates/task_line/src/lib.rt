@@ -2,15 +2,14 @@
 #![tactic(auto)]
 
 ghost use Rattle.std.specs.Prelude.{◌≡◌};
-ghost use Rattle.records.specs.Record.{reading_res};
 ghost use Rattle.task_line.specs.Lines.{record_kind, answer_kind, Sees};
 
 use ahead::cut_ahead;
 use c_turnpoint_record::CRecordTurnpoint;
-use part::Part;
+use part::{InLine, Part};
 use records::{Reading, Record};
 
-// What a line is to a task.
+// What a line is to a task: three ways, so neither an Option nor a Result.
 #[derive(Clone, Copy)]
 pub enum Kind {
     Declaration(i8),
@@ -26,35 +25,23 @@ pub struct Seen {
     pub next: usize,
 }
 
+#[tactic(auto, unfolding(crate::specs::Lines::record_kind))]
 fn kind_of_record(found: Record) -> Kind
     ensures { result ≡ record_kind found }
 {
     match found {
         Record::CDeclaration(task) => Kind::Declaration(task.turnpoint_count),
         Record::CTurnpoint(point) => Kind::Point(point),
-        Record::A(_) => Kind::Other,
-        Record::B(_) => Kind::Other,
-        Record::D(_) => Kind::Other,
-        Record::E(_) => Kind::Other,
-        Record::F(_) => Kind::Other,
-        Record::G(_) => Kind::Other,
-        Record::H(_) => Kind::Other,
-        Record::I => Kind::Other,
-        Record::J => Kind::Other,
-        Record::K(_) => Kind::Other,
-        Record::L(_) => Kind::Other,
-        Record::Unrecognised(_) => Kind::Other,
+        _ => Kind::Other,
     }
 }
 
 // What a line with that reading is.
+#[tactic(auto, unfolding(crate::specs::Lines::answer_kind))]
 fn kind_of(reading: Reading) -> Kind
-    ensures { result ≡ answer_kind (reading_res reading) }
+    ensures { result ≡ answer_kind reading }
 {
-    match reading {
-        Reading::Accepted(found) => kind_of_record(found),
-        Reading::Refused(_) => Kind::Other,
-    }
+    reading.map(kind_of_record).unwrap_or(Kind::Other)
 }
 
 // The line that begins at a place, as a task sees it; past the log's end it is an empty one.

@@ -1,30 +1,26 @@
 -- The loop that writes points: what was written, and what is left to write from here, make up the whole.
-use Rattle.text.specs.Prelude.{ℕ, zero, suc, ◌+◌, ◌-◌, ◌≤◌, ◌<◌, ◌≡◌, List, [], ◌∷◌, ◌++◌, length, drop, largest}
+use Rattle.text.specs.Prelude.{ℕ, zero, suc, ◌+◌, ◌-◌, ◌≤◌, ◌<◌, ◌≡◌, List, [], ◌++◌, length, drop, largest}
 use native.Mathlib.Omega.{arith}
 use mathlib.Core.Path.{refl, sym, ap, ◌∙◌}
 use mathlib.Core.List.{append-nil, append_assoc}
 use lib.ListN.{drop_of_length-le}
-use mathlib.Core.Logic.{inl, inr}
-use denote.Enum.Declared.{tag_of}
-use types.Run.{OneOf}
+use Rattle.c_turnpoint_record.specs.declared.CRecordTurnpoint.{CRecordTurnpoint}
 use Rattle.part.specs.Part.{part_bytes}
 use Rattle.put.specs.Put.{Wrote}
 use Rattle.put.proofs.Writing.{then, wrote_nothing}
 use Rattle.igc_log.specs.Log.{chunks, read_from, readings}
 use Rattle.task_line.specs.Lines.{TaskLine, line_of, task_lines, Sees}
 use Rattle.task_line.specs.declared.{Kind.Kind, Seen.Seen}
-use Rattle.task_line.specs.contracts.Kind.{the_type}
 use Rattle.task_text.specs.Points.{point_text, points_text}
 
 -- ---- what is left to write
 
 -- a line that is no point has no text
-pub no_point_text : (labels : List ℕ) (n : ℕ) (k : Kind) (l : List ℕ) → OneOf (0 ∷ 2 ∷ []) (tag_of the_type k) →
-    point_text labels n (line_of k l) ≡ []
+pub no_point_text : (labels : List ℕ) (n : ℕ) (k : Kind) (l : List ℕ) →
+    ((r : CRecordTurnpoint) → k ≡ Kind.Point r → ⊥) → point_text labels n (line_of k l) ≡ []
 unfolding point_text line_of
 no_point_text labels n (Kind.Declaration count) l h = refl
-no_point_text labels n (Kind.Point r) l (inl h) = absurd (omega arith)
-no_point_text labels n (Kind.Point r) l (inr h) = absurd (omega arith)
+no_point_text labels n (Kind.Point r) l h = absurd (h r refl)
 no_point_text labels n Kind.Other l h = refl
 
 pub all_texts : (labels : List ℕ) (n k : ℕ) (ls : List TaskLine) → k ≡ 0 → points_text labels n k ls ≡ []

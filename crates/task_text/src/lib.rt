@@ -7,6 +7,8 @@ ghost use Rattle.task_line.specs.Lines.{line_of, task_lines};
 ghost use Rattle.task_text.specs.Points.{point_text, points_text};
 
 use caption::caption;
+use part::InLine;
+use print::printed::Piece;
 use put::{put_byte, put_bytes};
 use task_line::{Kind, line_at};
 
@@ -25,11 +27,10 @@ fn put_point<'a>(
     let Kind::Point(point) = kind else {
         return at;
     };
-    let position = point.position;
     let shown = caption(point, line, labels, n);
     let at_space = put_bytes(buf, at, shown);
     let at_position = put_byte(buf, at_space, b' ');
-    let at_end = position.put(buf, at_position);
+    let at_end = point.position.put(buf, at_position);
     put_byte(buf, at_end, b'\n')
 }
 
@@ -48,18 +49,14 @@ pub fn put_points<'a>(
 {
     let mut end = at;
     let mut place = from;
-    let mut i = 0;
-    while i < points {
+    for i in 0..points {
         if log.len() <= place {
             return end;
         }
         let seen = line_at(log, place);
-        let kind = seen.kind;
-        let part = seen.line;
-        let line = part.view(log);
-        end = put_point(buf, end, kind, line, labels, i + 1);
+        let line = seen.line.view(log);
+        end = put_point(buf, end, seen.kind, line, labels, i + 1);
         place = seen.next;
-        i += 1;
     }
     end
 }

@@ -1,38 +1,36 @@
 -- What the program makes of the bytes that it read.
-use Rattle.std.specs.Prelude.{◌≡◌, ◌∷◌, ◌++◌}
+use Rattle.std.specs.Prelude.{◌≡◌, ◌∷◌, ◌++◌, Option, Some, None, Result, Ok, Err}
 use Rattle.text.specs.Prelude.{ℕ, List, [], take, LF, padded}
-use Rattle.std.proofs.Math.Option.{Option, none, some}
 use Rattle.text.specs.Spelt.{spelt}
-use Rattle.files.specs.declared.input.Filled.{Filled}
+use Rattle.files.specs.declared.{input.Filled.Filled, input.NotRead.NotRead}
 use Rattle.task.specs.Sheet.{Sheet, sheet_of, task_number, answer_to, left_by}
 use Rattle.task.specs.declared.TaskRefusal.{TaskRefusal}
-use Rattle.tasks.specs.declared.{Answer.Answer, Whole.Whole}
 
 -- How many bytes a file has that was read to its end. Where lent bytes are full there may be more, and where a read
 -- failed too: then there are none to go by.
-unfoldable pub whole_in : Filled → Whole
-whole_in (Filled.Ended n) = Whole.Bytes n
-whole_in Filled.Full = Whole.Missing
-whole_in Filled.Failed = Whole.Missing
+abbrev pub whole_in : Result Filled NotRead → Option ℕ
+whole_in (Ok (Filled.Ended n)) = Some n
+whole_in (Ok Filled.Full) = None
+whole_in (Err e) = None
 
 -- The sheet of the first bytes of the one and of the other, where both were read to their end.
-unfoldable pub sheet_in : Whole → List ℕ → Whole → List ℕ → Option Sheet
-sheet_in Whole.Missing log w labels = none
-sheet_in (Whole.Bytes n) log Whole.Missing labels = none
-sheet_in (Whole.Bytes n) log (Whole.Bytes m) labels = some (sheet_of (take n log) (take m labels))
+abbrev pub sheet_in : Option ℕ → List ℕ → Option ℕ → List ℕ → Option Sheet
+sheet_in None log w labels = None
+sheet_in (Some n) log None labels = None
+sheet_in (Some n) log (Some m) labels = Some (sheet_of (take n log) (take m labels))
 
 -- What a printer answers of that sheet; without one, nothing.
-unfoldable pub answer_for : Option Sheet → List ℕ → Answer
-answer_for none b = Answer.Nothing
-answer_for (some m) b = Answer.Printed (answer_to m b)
+abbrev pub answer_for : Option Sheet → List ℕ → Option (Result ℕ TaskRefusal)
+answer_for None b = None
+answer_for (Some m) b = Some (answer_to m b)
 
 -- What it leaves; without one, the bytes as they were.
-unfoldable pub left_for : Option Sheet → List ℕ → List ℕ
-left_for none b = b
-left_for (some m) b = left_by m b
+abbrev pub left_for : Option Sheet → List ℕ → List ℕ
+left_for None b = b
+left_for (Some m) b = left_by m b
 
 -- The answer is r, and b' is left where b was lent.
-pub record Answers (m : Option Sheet) (b b' : List ℕ) (r : Answer) : Type 0 where
+pub record Answers (m : Option Sheet) (b b' : List ℕ) (r : Option (Result ℕ TaskRefusal)) : Type 0 where
   pub answer : r ≡ answer_for m b
   pub left : b' ≡ left_for m b
 

@@ -6,29 +6,16 @@ ghost use Rattle.put.specs.Put.{Wrote};
 ghost use Rattle.files.specs.Input.{FilledBehind, Within};
 ghost use Rattle.tasks.specs.Answer.{words_of, refusal_text, whole_in, sheet_in, Answers};
 
-use files::input::{Filled, is_dash, open, read_on};
+use files::input::{Filled, NotRead, is_dash, open, read_on};
 use files::output::write_all;
 use files::say::{fail, refuse, write_block};
 use files::system::{Sink, System, buffer};
 use print::number::put_nat;
 use put::{put_byte, put_bytes};
-use task::{TaskPrinted, TaskRefusal, print_task};
+use task::{TaskRefusal, print_task};
 
-// The sheet printed or refused; nothing where a file could not be read whole.
-#[derive(Clone, Copy)]
-enum Answer {
-    Printed(TaskPrinted),
-    Nothing,
-}
-
-// A file that was read to its end, by its length; or none.
-#[derive(Clone, Copy)]
-enum Whole {
-    Bytes(usize),
-    Missing,
-}
-
-// A log of at most 4,194,304 bytes, and one byte more, by which a longer one shows.
+// A log of at most 4,194,304 bytes, and one byte more, by which a longer one shows. The rooms here are fixed, since there
+// is no heap.
 fn log_buffer() -> [u8; 4194305]
     ensures { 4194305 ≡ length result }
 {
@@ -72,72 +59,69 @@ fn put_refusal(buf: &mut [u8], at: usize, no: TaskRefusal) -> usize
 }
 
 // How many bytes a file has that was read to its end. Full bytes may not be all, and a failed read has none to go by.
-fn length_read(filled: Filled) -> Whole
+fn length_read(filled: Result<Filled, NotRead>) -> Option<usize>
     ensures { result ≡ whole_in filled }
 {
     match filled {
-        Filled::Ended(n) => Whole::Bytes(n),
-        Filled::Full => Whole::Missing,
-        Filled::Failed => Whole::Missing,
+        Ok(Filled::Ended(n)) => Some(n),
+        Ok(Filled::Full) => None,
+        Err(_) => None,
     }
 }
 
-// By how far the bytes of both were filled.
+// The sheet printed or refused, by how far the bytes of both were filled; nothing where a file could not be read whole.
+#[tactic(auto, using(crate::proofs::Reading::whole_inside))]
 fn answer_of<'a>(
-    filled: Filled,
+    filled: Result<Filled, NotRead>,
     log: &'a [u8],
-    labelled: Filled,
+    labelled: Result<Filled, NotRead>,
     labels: &'a [u8],
     sheet: &mut [u8],
-) -> Answer
+) -> Option<Result<usize, TaskRefusal>>
     requires { Within filled log.now × Within labelled labels.now }
     ensures { Answers
         (sheet_in (whole_in filled) log.now (whole_in labelled) labels.now)
         sheet.old sheet.new result }
 {
-    let Whole::Bytes(n) = length_read(filled) else {
-        return Answer::Nothing;
-    };
-    let Whole::Bytes(m) = length_read(labelled) else {
-        return Answer::Nothing;
-    };
-    Answer::Printed(print_task(&log[0..n], &labels[0..m], sheet))
+    let n = length_read(filled)?;
+    let m = length_read(labelled)?;
+    Some(print_task(&log[0..n], &labels[0..m], sheet))
 }
 
 // A sheet goes to standard output, and where that went well 0 to the descriptor `told`; a refusal to standard error.
-fn write_printed(sys: &System, printed: TaskPrinted, sheet: &mut [u8], told: Sink) {
+fn write_printed(sys: &System, printed: Result<usize, TaskRefusal>, sheet: &mut [u8], told: Sink) {
     match printed {
-        TaskPrinted::Written(n) => {
+        Ok(n) => {
             if write_block(sys, sheet, n) {
-                write_all(sys, told, b"0");
+                let _ = write_all(sys, told, b"0");
             }
         }
-        TaskPrinted::Refused(no) => {
+        Err(no) => {
             let mut text = [0u8; 64];
             let end = put_refusal(&mut text, 0, no);
             if end <= text.len() {
-                write_all(sys, Sink::Errors, &text[0..end]);
+                let _ = write_all(sys, Sink::Errors, &text[0..end]);
             }
         }
     }
 }
 
 // What went wrong in reading a file to its end.
-fn say_filled(sys: &System, filled: Filled, file: &[u8], too_long: &[u8]) {
+fn say_filled(sys: &System, filled: Result<Filled, NotRead>, file: &[u8], too_long: &[u8]) {
     match filled {
-        Filled::Ended(_) => {}
-        Filled::Full => refuse(sys, file, too_long),
-        Filled::Failed => fail(sys, file, b"cannot be read to its end"),
+        Ok(Filled::Ended(_)) => {}
+        Ok(Filled::Full) => refuse(sys, file, too_long),
+        Err(_) => fail(sys, file, b"cannot be read to its end"),
     }
 }
 
 // The bytes of a file; where there are more than have room, or they cannot be read, a sentence says so.
-fn fill(sys: &System, file: &[u8], buf: &mut [u8], too_long: &[u8]) -> Filled
+fn fill(sys: &System, file: &[u8], buf: &mut [u8], too_long: &[u8]) -> Result<Filled, NotRead>
     ensures { FilledBehind 0 buf.old buf.new result }
 {
     let Some(from) = open(sys, file) else {
         fail(sys, file, b"cannot be opened");
-        return Filled::Failed;
+        return Err(NotRead);
     };
     let filled = read_on(sys, &from, buf, 0);
     if is_dash(file) {
@@ -150,11 +134,11 @@ fn fill(sys: &System, file: &[u8], buf: &mut [u8], too_long: &[u8]) -> Filled
 }
 
 // The same of labels; a file that has no name has none.
-fn fill_labels(sys: &System, file: &[u8], buf: &mut [u8]) -> Filled
+fn fill_labels(sys: &System, file: &[u8], buf: &mut [u8]) -> Result<Filled, NotRead>
     ensures { FilledBehind 0 buf.old buf.new result }
 {
-    if file.len() == 0 {
-        return Filled::Ended(0);
+    if file.is_empty() {
+        return Ok(Filled::Ended(0));
     }
     fill(sys, file, buf, b"longer than 65536 bytes")
 }
@@ -166,37 +150,33 @@ fn run_files(sys: &System, file: &[u8], label_file: &[u8], told: Sink) {
     let mut sheet = sheet_buffer();
     let log_filled = fill(sys, file, &mut log, b"longer than 4194304 bytes");
     let labels_filled = fill_labels(sys, label_file, &mut labels);
-    match answer_of(log_filled, &log, labels_filled, &labels, &mut sheet) {
-        Answer::Printed(printed) => write_printed(sys, printed, &mut sheet, told),
-        Answer::Nothing => {}
+    if let Some(printed) = answer_of(log_filled, &log, labels_filled, &labels, &mut sheet) {
+        write_printed(sys, printed, &mut sheet, told);
     }
 }
 
 // The labels are those of the file that the argument `at` names.
 fn run_labelled(sys: &System, file: &[u8], at: usize, told: Sink) {
     let mut label_file = buffer();
-    let n = sys.arg(at, &mut label_file);
-    if sys.errno() != 0 {
+    let Ok(n) = sys.arg(at, &mut label_file) else {
         fail(sys, b"the labels' name", b"cannot be taken");
         return;
-    }
+    };
     if n == 0 {
-        write_all(
+        let _ = write_all(
             sys,
             Sink::Errors,
             b"tokelivo: the labels' file has no name\n",
         );
         return;
     }
-    if is_dash(file) {
-        if is_dash(&label_file[0..n]) {
-            write_all(
-                sys,
-                Sink::Errors,
-                b"tokelivo: log and labels cannot both come from standard input\n",
-            );
-            return;
-        }
+    if is_dash(file) && is_dash(&label_file[0..n]) {
+        let _ = write_all(
+            sys,
+            Sink::Errors,
+            b"tokelivo: log and labels cannot both come from standard input\n",
+        );
+        return;
     }
     run_files(sys, file, &label_file[0..n], told);
 }
@@ -210,7 +190,7 @@ pub fn run_task(sys: &System, at: usize, told: Sink) {
         return;
     }
     if words - at > 2 {
-        write_all(
+        let _ = write_all(
             sys,
             Sink::Errors,
             b"tokelivo: task takes a log and its labels\n",
@@ -218,11 +198,10 @@ pub fn run_task(sys: &System, at: usize, told: Sink) {
         return;
     }
     let mut file = buffer();
-    let n = sys.arg(at, &mut file);
-    if sys.errno() != 0 {
+    let Ok(n) = sys.arg(at, &mut file) else {
         fail(sys, b"the file's name", b"cannot be taken");
         return;
-    }
+    };
     if words - at == 1 {
         run_files(sys, &file[0..n], b"", told);
         return;

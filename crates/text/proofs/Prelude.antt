@@ -11,6 +11,7 @@ pub use Rattle.text.proofs.Steps.{
   off,
   found_in,
   refused_in,
+  counted,
   moved_twice,
   moved_bind,
   pass,

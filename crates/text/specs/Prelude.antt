@@ -7,6 +7,7 @@ unfoldable pub use mathlib.Core.List.{◌++◌, map}
 unfoldable pub use Rattle.std.proofs.Math.ListN.{length, take, drop, get_or, set, replicate}
 pub use Rattle.std.specs.Borrow.{Bor, MutBor}
 pub use Rattle.text.specs.Res.{Res, ok, no}
+pub use Rattle.std.specs.Prelude.{Option, Some, None}
 unfoldable pub use Rattle.text.specs.Res.{bind, moved, guard, pick, number_of, place_of, placed, moved_by, ◌≤?◌}
 unfoldable pub use Rattle.text.specs.Res.{◌=?◌, ◌∧?◌, ◌∨?◌}
 unfoldable pub use Rattle.text.specs.Line.{LF, CR, byte, cut, columns, begins}

@@ -1,7 +1,7 @@
 -- What times and dates share: three numbers of two characters each.
 use Rattle.std.specs.Prelude.{◌++◌}
-use Rattle.text.specs.Prelude.{ℕ, List, Res, ok, no, bind, columns, read_nat_of, padded}
-use Rattle.three.specs.declared.{Three.Three, ThreeRead.ThreeRead}
+use Rattle.text.specs.Prelude.{ℕ, List, Res, ok, bind, columns, read_nat_of, padded}
+use Rattle.three.specs.declared.{Three.Three}
 
 -- Three numbers one after the other, all read before anything is made of them.
 unfoldable pub read_three_of : {A : Type 0} → (ℕ → ℕ → ℕ → Res A) → List ℕ → Res A
@@ -16,10 +16,6 @@ unfoldable pub three_text : ℕ → ℕ → ℕ → List ℕ
 three_text a b c = padded 2 a ++ (padded 2 b ++ padded 2 c)
 
 -- ---- the answers of the code
-
-abbrev pub three_res : ThreeRead → Res Three
-three_res (ThreeRead.Ok v) = ok v
-three_res (ThreeRead.Refused n) = no n
 
 -- The three numbers as the code holds them.
 abbrev pub together : ℕ → ℕ → ℕ → Res Three

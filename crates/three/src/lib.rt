@@ -4,40 +4,26 @@
 ghost use Rattle.std.specs.Prelude.{◌≡◌};
 ghost use Rattle.field.specs.Field.{sized};
 ghost use Rattle.put.specs.Put.{Wrote};
-ghost use Rattle.three.specs.Three.{read_three_of, three_text, three_res, together};
+ghost use Rattle.three.specs.Three.{read_three_of, three_text, together};
 
 use print::number::put_nat;
-use text::number::{U8Read, read_u8};
-use text::refusal::Refusal;
+use text::number::read_u8;
+use text::refusal::{Refusal, counted_from};
 
 #[derive(Clone, Copy)]
 pub struct Three(pub u8, pub u8, pub u8);
 
-#[derive(Clone, Copy)]
-pub enum ThreeRead {
-    Ok(Three),
-    Refused(Refusal),
-}
-
 // Three numbers of two characters, read before any of them is tested.
-pub fn read_three(text: &[u8]) -> ThreeRead
-    ensures { three_res result ≡ sized 6 (read_three_of together) text.now }
+pub fn read_three(text: &[u8]) -> Result<Three, Refusal>
+    ensures { result ≡ sized 6 (read_three_of together) text.now }
 {
     if text.len() != 6 {
-        return ThreeRead::Refused(Refusal::WrongLength);
+        return Err(Refusal::WrongLength);
     }
-    let a = match read_u8(&text[0..2]) {
-        U8Read::Ok(first) => first,
-        U8Read::Refused(no_first) => return ThreeRead::Refused(no_first.moved(0)),
-    };
-    let b = match read_u8(&text[2..4]) {
-        U8Read::Ok(second) => second,
-        U8Read::Refused(no_second) => return ThreeRead::Refused(no_second.moved(2)),
-    };
-    match read_u8(&text[4..6]) {
-        U8Read::Ok(third) => ThreeRead::Ok(Three(a, b, third)),
-        U8Read::Refused(no_third) => ThreeRead::Refused(no_third.moved(4)),
-    }
+    let first = counted_from(0, read_u8(&text[0..2]))?;
+    let second = counted_from(2, read_u8(&text[2..4]))?;
+    let third = counted_from(4, read_u8(&text[4..6]))?;
+    Ok(Three(first, second, third))
 }
 
 // Three numbers, each in width 2.

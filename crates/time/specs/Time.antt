@@ -1,10 +1,10 @@
 -- Times: HHMMSS.
 use Rattle.std.specs.Prelude.{◌+◌, ◌*◌}
-use Rattle.text.specs.Prelude.{ℕ, Bool, List, Res, ok, no, guard, ◌≤?◌, ◌∧?◌}
+use Rattle.text.specs.Prelude.{ℕ, Bool, List, Res, ok, guard, ◌≤?◌, ◌∧?◌}
 use Rattle.text.specs.declared.refusal.Refusal.TheVariants.{OutOfRange}
 use Rattle.field.specs.Field.{sized, field}
 use Rattle.three.specs.Three.{read_three_of, three_text}
-use Rattle.time.specs.declared.{Time.Time, TimeRead.TimeRead}
+use Rattle.time.specs.declared.{Time.Time}
 
 -- Hours at most 24, minutes and seconds at most 60; 4 else.
 unfoldable pub time_of : ℕ → ℕ → ℕ → Res Time
@@ -31,9 +31,3 @@ seconds_of_lem t = t.hours * 3600 + t.minutes * 60 + t.seconds
 -- By the book: hours at most 23, minutes and seconds at most 59.
 unfoldable pub time_book : Time → Bool
 time_book t = (t.hours ≤? 23) ∧? (t.minutes ≤? 59) ∧? (t.seconds ≤? 59)
-
--- ---- the answers of the code
-
-abbrev pub time_res : TimeRead → Res Time
-time_res (TimeRead.Ok v) = ok v
-time_res (TimeRead.Refused n) = no n

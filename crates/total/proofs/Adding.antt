@@ -1,7 +1,9 @@
 -- What the code makes of two totals, and of a total and one log more, is what the definition makes of them.
-use Rattle.text.specs.Prelude.{ℕ, ◌+◌, ◌≤◌, ◌<◌, ◌≡◌, Bool, true, false, List, length, take, set}
+use Rattle.span.specs.Spot.{GpsSpot, PressureSpot}
+use Rattle.report.specs.Peak.{GpsPeak, PressurePeak}
+use Rattle.text.specs.Prelude.{ℕ, ◌+◌, ◌≤◌, ◌<◌, ◌≡◌, Bool, true, false, List, Option, Some, None, length, take, set}
 use Rattle.text.specs.Prelude.{get_or, pick, ◌∧?◌, largest}
-use Rattle.text.proofs.Prelude.{arith, sym, ap, ◌∙◌, take_all, yes≤, holds, fails, by_test}
+use Rattle.text.proofs.Prelude.{refl, sym, ◌∙◌, take_all, yes≤, holds, fails, by_test}
 use native.Mathlib.Numerals.{add-one}
 use lib.ListN.{length-set}
 use lib.Seq.{take-suc, take-suc-set}
@@ -9,14 +11,11 @@ use Rattle.report.specs.Counts.{added}
 use Rattle.report.specs.Range.{Range, joined}
 use Rattle.report.specs.Figures.{Figures, earlier}
 use Rattle.report.specs.Figures as figures
-use Rattle.report.specs.declared.{pressure.PressurePeak.PressurePeak, gps.GpsPeak.GpsPeak}
 use Rattle.report.proofs.Counts.{get_d_added, length_added}
 use Rattle.span.specs.Span.{lower_pressure, lower_gps, mapped, all_fit, later_pressure, later_gps, numbers_of}
-use Rattle.span.specs.declared.{pressure.PressureSpot.PressureSpot, gps.GpsSpot.GpsSpot}
-use Rattle.total.specs.Total.{Totals, one_log, add_res, total_fits, later_by, join_of, join_fits, refused, join_res}
-use Rattle.total.specs.Total.{sums_res, Beside, beside}
-use Rattle.total.specs.declared.Sums.{Sums}
-use Rattle.total.proofs.Fits.{one_over, set_fit}
+use Rattle.total.specs.Total.{Totals, one_log, add_res, total_fits, later_by, join_of, join_fits, given, refused, join_res}
+use Rattle.total.specs.Total.{sums_res}
+use Rattle.total.proofs.Fitting.{one_over, set_fit}
 use Rattle.total.proofs.Totals.{add_joins}
 use Rattle.total.proofs.Joining.{counts, logs_split, add_fits_lem}
 
@@ -30,7 +29,7 @@ pub record Made (ns ms all : List ℕ) (i : ℕ) : Type 0 where
 
 module _ (ns ms : List ℕ) (i : ℕ) where
   -- the next sum does not fit
-  pub over_here : largest < get_or ns i 0 + get_or ms i 0 → record { counts = ns; fit = false } ≡ sums_res ns ms
+  pub over_here : largest < get_or ns i 0 + get_or ms i 0 → None ≡ sums_res ns ms
   unfolding sums_res pick
   over_here h = rw (one_over (added ns ms) i (rw (get_d_added ns ms i) h))
 
@@ -51,7 +50,7 @@ module _ (ns ms : List ℕ) (i : ℕ) where
           fit = set_fit all i n made.fit f;
         }
 
-    pub sums_made : length ns ≤ i → record { counts = all; fit = true } ≡ sums_res ns ms
+    pub sums_made : length ns ≤ i → Some all ≡ sums_res ns ms
     unfolding sums_res pick
     sums_made h =
         let are : all ≡ added ns ms =
@@ -61,14 +60,25 @@ module _ (ns ms : List ℕ) (i : ℕ) where
         rw (sym are, made.fit)
 
 -- what the code says of its sums
-module _ (ns ms : List ℕ) {sums : Sums} (are : sums ≡ sums_res ns ms) where
-  pub fit_is : {b : Bool} → sums.fit ≡ b → all_fit (added ns ms) ≡ b
-  unfolding sums_res
-  fit_is h = sym (ap (λ s. s.fit) are) ∙ h
-
-  pub counts_are : sums.fit ≡ true → sums.counts ≡ added ns ms
+module _ (ns ms : List ℕ) where
+  pub sums_fit : {all : List ℕ} → Some all ≡ sums_res ns ms →
+      (all_fit (added ns ms) ≡ true) × (all ≡ added ns ms)
   unfolding sums_res pick
-  counts_are h = ap (λ s. s.counts) are ∙ rw (fit_is h)
+  sums_fit {all} e = by (all_fit (added ns ms)) refl e
+    where
+      by : (t : Bool) → all_fit (added ns ms) ≡ t → Some all ≡ pick t (Some (added ns ms)) None →
+          (all_fit (added ns ms) ≡ true) × (all ≡ added ns ms)
+      by true h e = (h, cc)
+      by false h e = cc
+
+  pub sums_over : None ≡ sums_res ns ms → all_fit (added ns ms) ≡ false
+  unfolding sums_res pick
+  sums_over e = by (all_fit (added ns ms)) refl e
+    where
+      by : (t : Bool) → all_fit (added ns ms) ≡ t → ◌≡◌ {A = Option (List ℕ)} None (pick t (Some (added ns ms)) None) →
+          all_fit (added ns ms) ≡ false
+      by true h e = cc
+      by false h e = h
 
 -- ---- two totals
 
@@ -111,7 +121,7 @@ module _ (a b : Totals) where
       holds (holds (yes≤ logs) (holds (yes≤ lines) (holds (yes≤ fixes) answers)))
       (logs_split (later_by a.logs b.figures) ∙ holds pressure gps)
 
-  pub too_large : join_fits a b ≡ false → beside (refused 21) ≡ beside (join_res a b)
+  pub too_large : join_fits a b ≡ false → refused 21 ≡ join_res a b
   unfolding join_res pick
   too_large e = rw e
 
@@ -121,39 +131,23 @@ module _ (a b : Totals) where
       pressure ≡ joined lower_pressure a.figures.pressure later →
       gps ≡ joined lower_gps a.figures.gps later_gps_lem →
       times ≡ joined earlier a.figures.times b.figures.times →
-      record {
-        number = 0;
-        total = record {
-          logs = a.logs + b.logs;
-          figures = record {
-            lines = a.figures.lines + b.figures.lines;
-            answers = answers;
-            fixes = a.figures.fixes + b.figures.fixes;
-            pressure = pressure;
-            gps = gps;
-            times = times;
-          };
+      given (record {
+        logs = a.logs + b.logs;
+        figures = record {
+          lines = a.figures.lines + b.figures.lines;
+          answers = answers;
+          fixes = a.figures.fixes + b.figures.fixes;
+          pressure = pressure;
+          gps = gps;
+          times = times;
         };
-      } ≡ beside (join_res a b)
-  unfolding beside join_res join_of figures.both later_by pick
+      }) ≡ join_res a b
+  unfolding join_res join_of figures.both later_by pick
   joins fits are pressures gpses these = rw (fits, are, pressures, gpses, these)
 
 -- ---- one log more
 
-module _ (t : Totals) (f : Figures PressurePeak GpsPeak) {u : Totals} where
-  pub log_added : record { number = 0; total = u } ≡ beside (join_res t (one_log f)) →
-      record { total = u; fits = true } ≡ add_res t f
-  unfolding add_res beside join_res pick
-  log_added e =
-      by_test (join_fits t (one_log f))
-      (λ h. rw (sym (add_fits_lem t f), h, add_joins t f)
-      (ap (λ (b : Beside). record { total = b.total; fits = true }) (rw h at e)))
-      (λ h. absurd (omega (arith, ap (λ (b : Beside). b.number) (rw h at e))))
-
-  pub log_stays : record { number = 21; total = u } ≡ beside (join_res t (one_log f)) →
-      record { total = t; fits = false } ≡ add_res t f
-  unfolding add_res beside join_res pick
-  log_stays e =
-      by_test (join_fits t (one_log f))
-      (λ h. absurd (omega (arith, ap (λ (b : Beside). b.number) (rw h at e))))
-      (λ h. rw (sym (add_fits_lem t f), h))
+-- a log more is its total joined
+pub adds : (t : Totals) (f : Figures PressurePeak GpsPeak) → join_res t (one_log f) ≡ add_res t f
+unfolding add_res join_res
+adds t f = rw (add_fits_lem t f, add_joins t f)

@@ -1,22 +1,22 @@
 -- The laws of joining: in any grouping the same, nothing by the total of no logs, and the total of one list of logs
 -- followed by the other.
+use Rattle.span.specs.Spot.{GpsSpot, PressureSpot}
+use Rattle.report.specs.Peak.{GpsPeak, PressurePeak}
 use Rattle.text.specs.Prelude.{ℕ, ◌+◌, ◌≤◌, ◌≡◌, Bool, true, false, List, ◌∷◌, ◌++◌, pick, ◌≤?◌, ◌∧?◌, largest}
 use Rattle.text.proofs.Prelude.{arith, refl, sym, ap, ◌∙◌, holds, fails, by_test, never, and, both as both_hold}
 use native.Mathlib.Nat.{zero-add, add-zero, add_assoc}
 use Rattle.report.specs.Range.{Range, none, between, higher, joined}
 use Rattle.report.specs.Counts.{from, by_number, added}
 use Rattle.report.specs.Figures.{Figures, empty, both}
-use Rattle.report.specs.declared.{pressure.PressurePeak.PressurePeak, gps.GpsPeak.GpsPeak}
 use Rattle.report.proofs.Figures.{both_assoc, both_empty, empty_both}
 use Rattle.span.specs.Span.{pressure_spot, gps_spot, lower_pressure, lower_gps, mapped, all_fit, later_pressure, later_gps}
 use Rattle.span.specs.Span.{numbers_of}
-use Rattle.span.specs.declared.{pressure.PressureSpot.PressureSpot, gps.GpsSpot.GpsSpot}
-use Rattle.span.proofs.Fits.{joined_fit, earlier_fit}
+use Rattle.span.proofs.Fitting.{joined_fit, earlier_fit}
 use Rattle.total.specs.Total.{Totals, Logs, total_of, no_logs, in_log_of, one_log, total_fits, add_fits, later_by, join_of}
 use Rattle.total.specs.Total.{log_numbers, join_fits, Joining, given, refused, join_res}
 use Rattle.total.specs.Joins.{Fitting, and_then, left_first, right_first, apart, apart_spot, apart_a, apart_b, apart_c}
 use Rattle.total.specs.Laws.{OfBoth, Sound}
-use Rattle.total.proofs.Fits.{fits_at, append_fit, first_fit, second_fit, own_fit}
+use Rattle.total.proofs.Fitting.{fits_at, append_fit, first_fit, second_fit, own_fit}
 use Rattle.total.proofs.Totals.{pressure_order, gps_order, joined_mapped, mapped_mapped, mapped_same}
 use Rattle.total.proofs.Totals.{total_append, add_joins, total_agrees}
 
@@ -24,14 +24,14 @@ use Rattle.total.proofs.Totals.{total_append, add_joins, total_agrees}
 
 later_both : (k : ℕ) (f g : Figures PressureSpot GpsSpot) →
     later_by k (both lower_pressure lower_gps f g) ≡ both lower_pressure lower_gps (later_by k f) (later_by k g)
-unfolding later_by both later_pressure later_gps lower_pressure lower_gps
+unfolding later_by both lower_pressure lower_gps
 later_both k f g = rw (
   joined_mapped lower_pressure (later_pressure k) f.pressure g.pressure,
   joined_mapped lower_gps (later_gps k) f.gps g.gps,
 )
 
 later_later : (k n : ℕ) (f : Figures PressureSpot GpsSpot) → later_by k (later_by n f) ≡ later_by (k + n) f
-unfolding later_by later_pressure later_gps
+unfolding later_by
 later_later k n f = rw (
   mapped_mapped (later_pressure k) (later_pressure n) (later_pressure (k + n)) (λ s. rw (add_assoc k n s.log))
       f.pressure,
@@ -39,7 +39,7 @@ later_later k n f = rw (
 )
 
 later_none : (f : Figures PressureSpot GpsSpot) → later_by 0 f ≡ f
-unfolding later_by later_pressure later_gps
+unfolding later_by
 later_none f = rw (
   mapped_same (later_pressure 0) (λ s. rw (zero-add s.log)) f.pressure,
   mapped_same (later_gps 0) (λ s. rw (zero-add s.log)) f.gps,
@@ -107,7 +107,7 @@ logs_split f = append_fit (numbers_of (λ s. s.log) f.pressure) (numbers_of (λ 
 
 earlier_logs_fit : (k : ℕ) (f : Figures PressureSpot GpsSpot) → all_fit (log_numbers (later_by k f)) ≡ true →
     all_fit (log_numbers f) ≡ true
-unfolding later_by later_pressure later_gps
+unfolding later_by
 earlier_logs_fit k f e =
     let h = both_hold (sym (logs_split (later_by k f)) ∙ e) in
     logs_split f
@@ -126,7 +126,7 @@ both_logs_fit f g p q =
 
 own_logs_fit : (t : Totals) → Sound t → (k : ℕ) → k + t.logs ≤ largest →
     all_fit (log_numbers (later_by k t.figures)) ≡ true
-unfolding later_by later_pressure later_gps
+unfolding later_by
 own_logs_fit t s k h =
     logs_split (later_by k t.figures)
     ∙ and (own_fit (λ s. s.log) k (later_pressure k) (λ s. refl) t.logs h t.figures.pressure s.pressure)
@@ -202,8 +202,8 @@ refused_alike a b c s z =
 pub refused_apart :
     (left_first apart_a apart_b apart_c ≡ refused 21) ×
     (right_first apart_a apart_b apart_c ≡ given (join_of apart_a (join_of apart_b apart_c)))
-unfolding left_first right_first and_then apart apart_spot apart_a apart_b apart_c join_res join_fits total_fits join_of both
-    later_by later_pressure lower_pressure mapped joined higher added by_number from all_fit log_numbers numbers_of ◌∧?◌
+unfolding left_first right_first and_then apart apart_spot apart_a apart_b apart_c join_res join_fits total_fits
+    join_of both later_by lower_pressure mapped joined higher added by_number from all_fit log_numbers numbers_of ◌∧?◌
     ◌≤?◌ pick
 refused_apart = (refl, refl)
 
@@ -224,7 +224,7 @@ both_mapped X f x none = tt
 both_mapped X f x (between a b) = (x a, x b)
 
 one_sound : (f : Figures PressurePeak GpsPeak) → Sound (one_log f)
-unfolding one_log in_log_of pressure_spot gps_spot
+unfolding one_log in_log_of
 one_sound f = record {
   pressure = both_mapped _ (pressure_spot 1) (λ p. (omega arith, omega arith)) f.pressure;
   gps = both_mapped _ (gps_spot 1) (λ p. (omega arith, omega arith)) f.gps;

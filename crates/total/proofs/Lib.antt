@@ -1,4 +1,4 @@
-pub mod Fits
+pub mod Fitting
 pub mod Totals
 pub mod Joining
 pub mod Adding

@@ -1,4 +1,6 @@
 -- The total of some logs and then others, of some and then one more, and what a total says.
+use Rattle.span.specs.Spot.{GpsSpot, PressureSpot}
+use Rattle.report.specs.Peak.{GpsPeak, PressurePeak}
 use Rattle.text.specs.Prelude.{ℕ, suc, ◌+◌, ◌≤◌, ◌<◌, ◌≡◌, Bool, List, [], ◌∷◌, ◌++◌, map, length, Res, pick}
 use Rattle.text.proofs.Prelude.{arith, refl, sym, ap, ◌∙◌, append-nil, append_assoc, length-append, by_test}
 use mathlib.Core.Path.{fun_ext}
@@ -11,12 +13,10 @@ use Rattle.report.specs.Counts.{numbers, by_number, summed, added}
 use Rattle.report.specs.Figures.{Figures, earlier, empty, both}
 use Rattle.report.specs.Report.{below_pressure, below_gps, pressure_at, gps_at, time_at, answered_with, fixes_of, shown}
 use Rattle.report.specs.Report.{report_of}
-use Rattle.report.specs.declared.{pressure.PressurePeak.PressurePeak, gps.GpsPeak.GpsPeak}
 use Rattle.report.proofs.Ranges.{range_append, ordered_range, every_append, every_at}
 use Rattle.report.proofs.Counts.{added_from}
 use Rattle.report.proofs.Figures.{heights_order, times_order}
 use Rattle.span.specs.Span.{pressure_spot, gps_spot, lower_pressure, lower_gps, mapped, later_pressure, later_gps}
-use Rattle.span.specs.declared.{pressure.PressureSpot.PressureSpot, gps.GpsSpot.GpsSpot}
 use Rattle.total.specs.Total.{Totals, in_order, Logs, pressure_shown, gps_shown, time_shown, total_of, no_logs, in_log_of}
 use Rattle.total.specs.Total.{one_log, add_of, later_by, join_of}
 use Rattle.total.specs.Laws.{OfBoth, Numbers, Sound, TotalAgrees}
@@ -124,8 +124,7 @@ module _ {T : Type 0} where
       ∙ sym (added_from numbers 0 (λ n. summed (map (answered_with n) a)) (λ n. summed (map (answered_with n) b)))
 
   pub total_append : (a b : Logs T) → total_of (a ++ b) ≡ join_of (total_of a) (total_of b)
-  unfolding total_of join_of both later_by pressure_shown pressure_spot later_pressure lower_pressure
-      gps_shown gps_spot later_gps lower_gps time_shown
+  unfolding total_of join_of both later_by pressure_shown lower_pressure gps_shown lower_gps time_shown
   total_append a b = rw (
     length-append a b,
     summed_append length a b,
@@ -144,7 +143,7 @@ module _ {T : Type 0} where
 -- ---- one log more
 
 later_log : (k n : ℕ) (f : Figures PressurePeak GpsPeak) → later_by k (in_log_of n f) ≡ in_log_of (k + n) f
-unfolding later_by in_log_of later_pressure later_gps pressure_spot gps_spot
+unfolding later_by in_log_of
 later_log k n f = rw (
   mapped_mapped (later_pressure k) (pressure_spot n) (pressure_spot (k + n)) (λ p. refl) f.pressure,
   mapped_mapped (later_gps k) (gps_spot n) (gps_spot (k + n)) (λ p. refl) f.gps,
@@ -158,12 +157,12 @@ module _ {T : Type 0} where
   -- heights of a log, with its number
   pressure_shown_lem : (n : ℕ) (xs : List (LineRead (Res Record) T)) →
       range_of lower_pressure (pressure_shown n xs) ≡ mapped (pressure_spot n) (report_of xs).pressure
-  unfolding pressure_shown report_of lower_pressure below_pressure pressure_spot
+  unfolding pressure_shown report_of lower_pressure below_pressure
   pressure_shown_lem n xs = range_mapped lower_pressure (pressure_spot n) (shown pressure_at xs)
 
   gps_shown_lem : (n : ℕ) (xs : List (LineRead (Res Record) T)) →
       range_of lower_gps (gps_shown n xs) ≡ mapped (gps_spot n) (report_of xs).gps
-  unfolding gps_shown report_of lower_gps below_gps gps_spot
+  unfolding gps_shown report_of lower_gps below_gps
   gps_shown_lem n xs = range_mapped lower_gps (gps_spot n) (shown gps_at xs)
 
   total_one : (xs : List (LineRead (Res Record) T)) → total_of (xs ∷ []) ≡ one_log (report_of xs)
@@ -222,7 +221,7 @@ own_logs o number spot is show ls =
     (λ k l a b. every_mapped _ (spot k) (λ p. (omega (arith, is k p), omega (arith, is k p))) (show l)))
 
 sound : {T : Type 0} (logs : Logs T) → Sound (total_of logs)
-unfolding total_of pressure_shown gps_shown pressure_spot gps_spot
+unfolding total_of pressure_shown gps_shown
 sound logs = record {
   pressure = own_logs pressure_order (λ s. s.log) pressure_spot (λ k p. refl) (shown pressure_at) logs;
   gps = own_logs gps_order (λ s. s.log) gps_spot (λ k p. refl) (shown gps_at) logs;

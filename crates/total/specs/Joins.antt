@@ -1,10 +1,10 @@
 -- What is said of joined totals: when one fits, and three of them joined from either side.
+use Rattle.span.specs.Spot.{PressureSpot}
 use Rattle.std.specs.Prelude.{◌-◌, ◌≡◌}
 use Rattle.text.specs.Prelude.{ℕ, true, length, pos, largest}
 use Rattle.report.specs.Range.{Range, none, between}
 use Rattle.report.specs.Counts.{numbers, by_number}
 use Rattle.span.specs.Span.{all_fit}
-use Rattle.span.specs.declared.pressure.PressureSpot.{PressureSpot}
 use Rattle.total.specs.Total.{Totals, total_fits, log_numbers, Joining, given, refused, join_res}
 
 -- A total fits: its counts and its log numbers fit 64 bits, and it has a count for each answer.

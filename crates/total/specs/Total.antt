@@ -1,17 +1,18 @@
 -- The total of some logs: each figure by itself over the readings of all of them in order, and a log at a time.
-use Rattle.std.specs.Prelude.{◌+◌, ◌∷◌, ◌++◌}
-use Rattle.text.specs.Prelude.{ℕ, Bool, List, [], map, length, Res, pick, ◌∧?◌}
+use Rattle.span.specs.Spot.{GpsSpot, PressureSpot}
+use Rattle.report.specs.Peak.{GpsPeak, PressurePeak}
+use Rattle.std.specs.Prelude.{Result, ◌+◌, ◌∷◌, ◌++◌}
+use Rattle.text.specs.Prelude.{ℕ, Bool, List, [], map, length, Option, Some, None, Res, ok, no, pick, ◌∧?◌}
 use Rattle.records.specs.declared.Record.{Record}
 use Rattle.igc_log.specs.Log.{LineRead}
 use Rattle.report.specs.Range.{range_of}
 use Rattle.report.specs.Counts.{by_number, summed, added}
 use Rattle.report.specs.Figures.{Figures, earlier, empty, both}
-use Rattle.report.specs.Report.{answered_with, fixes_of, shown, pressure_at, gps_at, time_at, times_in}
-use Rattle.report.specs.declared.{pressure.PressurePeak.PressurePeak, gps.GpsPeak.GpsPeak}
+use Rattle.report.specs.Peak.{range_in}
+use Rattle.report.specs.Report.{answered_with, fixes_of, shown, pressure_at, gps_at, time_at}
 use Rattle.span.specs.Span.{pressure_spot, gps_spot, lower_pressure, lower_gps, mapped, later_pressure, later_gps, all_fit}
-use Rattle.span.specs.Span.{numbers_of, pressure_over, gps_over}
-use Rattle.span.specs.declared.{pressure.PressureSpot.PressureSpot, gps.GpsSpot.GpsSpot}
-use Rattle.total.specs.declared.{Total.Total, Added.Added, Sums.Sums, Verdict.Verdict, Joined.Joined}
+use Rattle.span.specs.Span.{numbers_of}
+use Rattle.total.specs.declared.{Total.Total, TooLarge.TooLarge}
 
 -- How many logs, and the figures over all of them.
 pub record Totals : Type 0 where
@@ -92,15 +93,6 @@ total_fits t = all_fit (t.logs ∷ t.figures.lines ∷ t.figures.fixes ∷ t.fig
 unfoldable pub add_fits : Totals → Figures PressurePeak GpsPeak → Bool
 add_fits t f = total_fits (add_of t f)
 
--- A total, and whether it has the log that was to be added.
-pub record Given : Type 0 where
-  pub total : Totals
-  pub fits : Bool
-
--- The total with one log more where that fits, else the total as it was.
-unfoldable pub add_res : Totals → Figures PressurePeak GpsPeak → Given
-add_res t f = record { total = pick (add_fits t f) (add_of t f) t; fits = add_fits t f }
-
 -- ---- two totals
 
 -- The same figures, their log numbers shifted by k.
@@ -138,10 +130,13 @@ pub data Joining : Type 0 where
 unfoldable pub join_res : Totals → Totals → Joining
 join_res a b = pick (join_fits a b) (given (join_of a b)) (refused 21)
 
--- Counts with those of another where they fit, else as they were.
-unfoldable pub sums_res : List ℕ → List ℕ → Sums
-sums_res ns ms =
-    let fit = all_fit (added ns ms) in record { counts = pick fit (added ns ms) ns; fit = fit }
+-- The total with the report of one log more where every count of it fits; 21 where one would not.
+unfoldable pub add_res : Totals → Figures PressurePeak GpsPeak → Joining
+add_res t f = pick (add_fits t f) (given (add_of t f)) (refused 21)
+
+-- Counts with those of another, where they fit.
+unfoldable pub sums_res : List ℕ → List ℕ → Option (List ℕ)
+sums_res ns ms = pick (all_fit (added ns ms)) (Some (added ns ms)) None
 
 -- ---- what the code holds
 
@@ -152,29 +147,13 @@ total_in t = record {
     lines = t.lines;
     answers = t.answers;
     fixes = t.fixes;
-    pressure = pressure_over t.pressure;
-    gps = gps_over t.gps;
-    times = times_in t.times;
+    pressure = range_in t.pressure;
+    gps = range_in t.gps;
+    times = range_in t.times;
   };
 }
 
-abbrev pub added_in : Added → Given
-added_in a = record { total = total_in a.total; fits = a.fits }
-
--- 21 is the paper's number; 0 stands for no refusal.
-abbrev pub verdict_number : Verdict → ℕ
-verdict_number Verdict.Fits = 0
-verdict_number Verdict.TooLarge = 21
-
--- The number of the answer, and the total beside it.
-pub record Beside : Type 0 where
-  pub number : ℕ
-  pub total : Totals
-
--- Beside a refusal stands the total of no logs.
-unfoldable pub beside : Joining → Beside
-beside (given t) = record { number = 0; total = t }
-beside (refused n) = record { number = n; total = no_logs }
-
-abbrev pub joined_in : Joined → Beside
-joined_in j = record { number = verdict_number j.verdict; total = total_in j.total }
+-- 21 is the paper's number.
+abbrev pub joined_in : Result Total TooLarge → Joining
+joined_in (ok t) = given (total_in t)
+joined_in (no e) = refused 21

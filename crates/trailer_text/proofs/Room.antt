@@ -1,4 +1,5 @@
 -- The trailer of a log has room: 65 characters.
+use Rattle.text.specs.Prelude.{Option}
 use Rattle.text.specs.Prelude.{ℕ, suc, ◌^◌, ◌≤◌, ◌<◌, Bool, true, false, List, length, pick, largest}
 use Rattle.text.proofs.Prelude.{arith, length-append}
 use Rattle.text.proofs.Decimal.{places_le, length_padded}
@@ -11,7 +12,7 @@ use Rattle.walk.proofs.Turns.{one_at_most}
 use Rattle.trailer_text.specs.Answer.{plain}
 use Rattle.trailer_text.specs.Trailer.{is_refusal_of, force_after, counted, count_step, offset_text, figures}
 use Rattle.trailer_text.specs.Trailer.{trailer_text_of}
-use Rattle.trailer_text.specs.declared.{Offset.Offset, Trailer.Trailer}
+use Rattle.trailer_text.specs.declared.{Trailer.Trailer}
 
 -- a number below 10 ^ (k + 1) has at most k + 1 characters
 pub plain_le : (k n : ℕ) → n < 10 ^ suc k → length (plain n) ≤ suc k
@@ -43,7 +44,7 @@ pub line_fits : {c : Carried Tables Trailer} (k : List ℕ) → Fits c → c.pla
     → Fits (past_line reader count_step c (line_text k) (length k))
 unfolding past_line count_step counted force_after offset_text
 line_fits {c} k f h =
-    let P : Offset → Type 0 = λ o. length (offset_text o) ≤ 20 in
+    let P : Option ℕ → Type 0 = λ o. length (offset_text o) ≤ 20 in
     record {
       lines = omega arith;
       refused = omega (arith, one_at_most (is_refusal_of (read_line_of (line_text k))));

@@ -3,72 +3,66 @@
 
 ghost use Rattle.std.specs.Prelude.{◌≡◌};
 ghost use Rattle.put.specs.Put.{Wrote};
-ghost use Rattle.records.specs.Record.{reading_res};
 ghost use Rattle.trailer_text.specs.Trailer.{nothing, is_refusal_of, tallied, force_after, offset_text, figures};
 ghost use Rattle.trailer_text.specs.Trailer.{trailer_text_of};
 
 use print::number::put_nat;
 use put::put_byte;
-use records::Reading;
+use records::{Reading, answer_number};
 use text::line::begins;
-
-// The place of the I line in force, or none.
-#[derive(Clone, Copy)]
-pub enum Offset {
-    Missing,
-    At(usize),
-}
 
 #[derive(Clone, Copy)]
 pub struct Trailer {
-    pub in_force: Offset,
+    pub in_force: Option<usize>,
     pub lines: u64,
     pub refused: u64,
 }
 
 // An answer from 1 to 5.
 pub fn is_refusal(reading: Reading) -> bool
-    ensures { result ≡ is_refusal_of (reading_res reading) }
+    ensures { result ≡ is_refusal_of reading }
 {
-    let answer = reading.number();
-    if answer < 1 {
-        return false;
-    }
-    answer <= 5
+    let answer = answer_number(reading);
+    1 <= answer && answer <= 5
 }
 
-impl Offset {
-    // After a line: an accepted I line is in force from now on, a refused one leaves none.
-    pub fn after(self, place: usize, line: &[u8], reading: Reading) -> Offset
-        ensures { result ≡ force_after self place line.now (reading_res reading) }
-    {
-        if begins(b'I', line) {
-            if reading.number() == 0 {
-                return Offset::At(place);
-            }
-            return Offset::Missing;
-        }
-        self
+// The I line in force after a line: an accepted I line is from now on, a refused one leaves none.
+pub fn in_force_after(
+    before: Option<usize>,
+    place: usize,
+    line: &[u8],
+    reading: Reading,
+) -> Option<usize>
+    ensures { result ≡ force_after before place line.now reading }
+{
+    if !begins(b'I', line) {
+        return before;
     }
+    match answer_number(reading) {
+        0 => Some(place),
+        _ => None,
+    }
+}
 
-    // The place, or a dash.
-    pub fn put(self, buf: &mut [u8], at: usize) -> usize
-        ensures { Wrote buf.old at (offset_text self) buf.new result }
-    {
-        match self {
-            Offset::Missing => put_byte(buf, at, b'-'),
-            Offset::At(place) => put_nat(buf, at, place as u64, 1),
-        }
+// The place, or a dash.
+#[tactic(auto, unfolding(crate::specs::Trailer::offset_text, crate::specs::Answer::plain))]
+pub fn put_offset(buf: &mut [u8], at: usize, in_force: Option<usize>) -> usize
+    ensures { Wrote buf.old at (offset_text in_force) buf.new result }
+{
+    match in_force {
+        None => put_byte(buf, at, b'-'),
+        Some(place) => put_nat(buf, at, place as u64, 1),
     }
 }
 
 impl Trailer {
     // Over no readings.
+    #[tactic(auto, unfolding(crate::specs::Trailer::nothing))]
     pub fn new() -> Trailer
         ensures { result ≡ nothing }
     {
         Trailer {
-            in_force: Offset::Missing,
+            in_force: None,
             lines: 0,
             refused: 0,
         }
@@ -76,28 +70,20 @@ impl Trailer {
 
     // Over one reading more. Where a count would pass 64 bits, the figures stay.
     pub fn after(self, place: usize, line: &[u8], reading: Reading) -> Trailer
-        ensures { result ≡ tallied self place line.now (reading_res reading) }
+        ensures { result ≡ tallied self place line.now reading }
     {
-        if self.lines == 0xffff_ffff_ffff_ffff {
+        if self.lines == u64::MAX || self.refused == u64::MAX {
             return self;
         }
-        if self.refused == 0xffff_ffff_ffff_ffff {
-            return self;
-        }
-        let before = self.in_force;
-        let in_force = before.after(place, line, reading);
-        let lines = self.lines + 1;
-        if is_refusal(reading) {
-            return Trailer {
-                in_force,
-                lines,
-                refused: self.refused + 1,
-            };
-        }
+        let refused = if is_refusal(reading) {
+            self.refused + 1
+        } else {
+            self.refused
+        };
         Trailer {
-            in_force,
-            lines,
-            refused: self.refused,
+            in_force: in_force_after(self.in_force, place, line, reading),
+            lines: self.lines + 1,
+            refused,
         }
     }
 
@@ -115,11 +101,10 @@ impl Trailer {
     pub fn put(self, buf: &mut [u8], at: usize) -> usize
         ensures { Wrote buf.old at (trailer_text_of self) buf.new result }
     {
-        let in_force = self.in_force;
         let at_counts = put_byte(buf, at, b'T');
         let at_space = self.put_counts(buf, at_counts);
         let at_offset = put_byte(buf, at_space, b' ');
-        let at_end = in_force.put(buf, at_offset);
+        let at_end = put_offset(buf, at_offset, self.in_force);
         put_byte(buf, at_end, b'\n')
     }
 }

@@ -1,5 +1,5 @@
 -- The report that a walk keeps is that of the lines it has read.
-use Rattle.text.specs.Prelude.{ℕ, zero, suc, ◌+◌, ◌-◌, ◌≤◌, ◌<◌, ◌≡◌, List, length, take, drop, ◌≤?◌, largest}
+use Rattle.text.specs.Prelude.{ℕ, zero, suc, ◌+◌, ◌≤◌, ◌<◌, ◌≡◌, List, length, take, drop, ◌≤?◌, largest}
 use Rattle.text.proofs.Prelude.{arith, refl, sym, ap, ◌∙◌, take_all, length-take, is≤, isnt≤, by_test}
 use Rattle.part.specs.Part.{bytes_of}
 use Rattle.records.specs.Record.{read_line_of}

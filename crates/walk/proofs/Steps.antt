@@ -16,7 +16,7 @@ use Rattle.cursor.specs.Cursor.{start, past, next_of}
 use Rattle.walk.specs.Walk.{fresh, next_in, step_to, step_of, is_done}
 use Rattle.walk.specs.Readings.{after_steps, at_end_of}
 use Rattle.walk.specs.declared.{Walk.Walk}
-use Rattle.walk.specs.declared.Taken.TheVariants.{Done}
+use Rattle.text.specs.Prelude.{None}
 use Rattle.walk.proofs.Laws.{step_on}
 
 -- the second of two tests fails
@@ -68,7 +68,7 @@ module _ (s : List ℕ) (w : Walk) where
       (λ n. never e (rw (p, n) room)))
 
   -- done changes nothing
-  pub done : is_done s w ≡ true → step_of s w ≡ record { walk = w; taken = Done }
+  pub done : is_done s w ≡ true → step_of s w ≡ record { walk = w; taken = None }
   unfolding step_of step_to next_in next_of
   done e =
       by_test (is_full_of (figures_in w.report))

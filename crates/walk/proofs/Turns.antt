@@ -1,10 +1,11 @@
 -- The law of a turn, for this reader of lines and every step.
+use Rattle.records.specs.declared.Record.{Record}
+use Rattle.text.specs.Prelude.{Res}
 use Rattle.text.specs.Prelude.{ℕ, ◌+◌, ◌-◌, ◌≤◌, ◌<◌, ◌≡◌, Bool, true, false, List, ◌++◌, length, take, pick}
 use Rattle.text.proofs.Prelude.{arith, refl}
 use mathlib.Core.Option.{Option, none, some}
 use Rattle.part.specs.Part.{part_bytes, bytes_of}
-use Rattle.records.specs.Record.{read_line_of, reading_res}
-use Rattle.records.specs.declared.Reading.{Reading}
+use Rattle.records.specs.Record.{read_line_of}
 use Rattle.igc_log.specs.Line.{cut_at}
 use Rattle.igc_log.specs.Log.{readings}
 use Rattle.igc_log.specs.Fold.{over, texts, or_else, first_with, keep, Carried, fresh, read_on}
@@ -15,19 +16,19 @@ use Rattle.held.specs.declared.tables.Tables.{Tables}
 use Rattle.walk.specs.Turn.{got_at}
 use Rattle.walk.specs.Readings.{LineReading, reader}
 use Rattle.walk.specs.declared.turn.Got.{Got}
-use Rattle.walk.proofs.Laws.{reading_is, viewed, cut_shown}
+use Rattle.walk.proofs.Laws.{cut_shown}
 
 -- the line as the code cuts it, views it and reads it
-pub got : (s : List ℕ) (at : ℕ) {l : List ℕ} {cut : Cut} {r : Reading} →
-    cut ≡ cut_at at s → l ≡ part_bytes cut.line s → reading_res r ≡ read_line_of l →
+pub got : (s : List ℕ) (at : ℕ) {l : List ℕ} {cut : Cut} {r : (Res Record)} →
+    cut ≡ cut_at at s → l ≡ part_bytes cut.line s → r ≡ read_line_of l →
     ◌≡◌ {A = Got} (record { reading = r; line = cut.line; next = cut.next }) (got_at at s)
 unfolding got_at
-got s at {r} e v a = rw (reading_is r a, v, e)
+got s at {r} e v a = rw (a, v, e)
 
 -- what was read there, as line n at the place p with h held after it
 abbrev pub got_read : Got → List ℕ → ℕ → ℕ → Tables → LineReading
 got_read g s n p h =
-    record { number = n; place = p; line = part_bytes g.line s; answer = reading_res g.reading; held = h }
+    record { number = n; place = p; line = part_bytes g.line s; answer = g.reading; held = h }
 
 module _ (at : ℕ) (s : List ℕ) {g : Got} (e : g ≡ got_at at s) where
   -- its part and the next place are the cut's
@@ -36,9 +37,9 @@ module _ (at : ℕ) (s : List ℕ) {g : Got} (e : g ≡ got_at at s) where
   cut_of = rw e
 
   -- and its answer is the one to the part's bytes
-  pub answer_of : reading_res g.reading ≡ read_line_of (part_bytes g.line s)
+  pub answer_of : g.reading ≡ read_line_of (part_bytes g.line s)
   unfolding got_at
-  answer_of = rw e (viewed _)
+  answer_of = rw e
 
 -- ---- a turn, with all that is carried
 
@@ -60,9 +61,9 @@ module _ {T : Type 0} {step : T → LineReading → T} {c₀ : Carried Tables T}
 
   -- the line is the one that is cut there, and the answer is the one to it
   pub cut_here : let l = bytes_of (cut_at at s).line s in (part_bytes g.line s ≡ l)
-      × (reading_res g.reading ≡ read_line_of l)
+      × (g.reading ≡ read_line_of l)
   unfolding got_at
-  cut_here = rw (e, viewed (read_line_of (part_bytes (cut_at at s).line s)), cut_shown s at r.inside) (refl, refl)
+  cut_here = rw (e, cut_shown s at r.inside) (refl, refl)
 
   -- the text of what was read up to the next place
   pub text_turn : (f : LineReading → List ℕ) → texts f (read_on reader c₀ (take g.next s)) ≡

@@ -1,18 +1,18 @@
 -- What the steps of a walk read, as readings of its lines, and this reader among readers of lines.
 use Rattle.std.specs.Prelude.{◌≡◌, ◌∷◌}
-use Rattle.text.specs.Prelude.{ℕ, zero, suc, code, List, [], length, Res, pick, begins}
+use Rattle.text.specs.Prelude.{ℕ, zero, suc, code, List, [], length, Option, Some, None, Res, pick, begins}
 use Rattle.std.specs.Prelude.{refl}
 use Rattle.part.specs.Part.{bytes_of}
 use Rattle.table.specs.Table.{read_table}
-use Rattle.records.specs.Record.{read_line_of, reading_res}
+use Rattle.records.specs.Record.{read_line_of}
 use Rattle.records.specs.declared.Record.{Record}
 use Rattle.igc_log.specs.Log.{Reader, LineRead, Letter}
 use Rattle.held.specs.Held.{set_by_of, held_after}
 use Rattle.held.specs.Tables.{no_tables, tables_after}
 use Rattle.held.specs.declared.{Held.Held, tables.Tables.Tables}
 use Rattle.walk.specs.Walk.{step_of}
-use Rattle.walk.specs.declared.{Walk.Walk, Taken.Taken}
-use Rattle.walk.specs.declared.Taken.TheVariants.{Line, Done}
+use Rattle.walk.specs.declared.Walk.{Walk}
+use Rattle.part.specs.declared.Part.{Part}
 
 -- This reader of lines: the answer to a line with its record, and the tables that I lines and J lines leave.
 abbrev pub reader : Reader (Res Record) Tables
@@ -51,14 +51,14 @@ abbrev pub LineReading : Type 0
 LineReading = LineRead (Res Record) Tables
 
 -- What a step has read, in front of what is read later; nothing where it is done.
-unfoldable pub read_by : List ℕ → Taken → Walk → List LineReading → List LineReading
-read_by s Done w later = []
-read_by s (Line part reading) w later =
+unfoldable pub read_by : List ℕ → Option (Part × Res Record) → Walk → List LineReading → List LineReading
+read_by s None w later = []
+read_by s (Some (part, reading)) w later =
     record {
       number = w.at.number;
       place = part.start;
       line = bytes_of part s;
-      answer = reading_res reading;
+      answer = reading;
       held = w.held;
     } ∷ later
 

@@ -5,20 +5,21 @@
 pub mod turn;
 
 ghost use Rattle.std.specs.Prelude.{◌≡◌};
-ghost use Rattle.part.specs.Part.{found_res, shown, Shows};
+ghost use Rattle.part.specs.Part.{shown, Shows};
 ghost use Rattle.held.specs.Held.{look_up};
 ghost use Rattle.walk.specs.Walk.{fresh, step_of};
 
 use b_record::BRecord;
-use cursor::{Cursor, Next};
+use cursor::Cursor;
 use field::Mnemonic;
 use held::Held;
 use held::tables::Tables;
 use k_record::KRecord;
-use part::{Found, Part};
+use part::{InLine, Part};
 use records::{Reading, Record};
 use report::Report;
 use text::line::begins;
+use text::refusal::Refusal;
 
 #[derive(Clone, Copy)]
 pub struct Walk {
@@ -27,18 +28,12 @@ pub struct Walk {
     pub at: Cursor,
 }
 
-// The line that was read, as a part of the log, with its reading; or the walk is done.
-#[derive(Clone, Copy)]
-pub enum Taken {
-    Line(Part, Reading),
-    Done,
-}
-
-// The walk afterwards stands beside: an enum holds no array.
+// The walk afterwards; and the line that was read, as a part of the log, with its reading, or none where the walk is
+// done.
 #[derive(Clone, Copy)]
 pub struct Step {
     pub walk: Walk,
-    pub taken: Taken,
+    pub taken: Option<(Part, Reading)>,
 }
 
 impl Walk {
@@ -56,99 +51,67 @@ impl Walk {
     pub fn step(self, log: &[u8]) -> Step
         ensures { result ≡ step_of log.now self }
     {
-        let at = self.at;
-        let before = self.report;
-        if before.is_full() {
-            return Step {
-                walk: self,
-                taken: Taken::Done,
-            };
+        let done = Step {
+            walk: self,
+            taken: None,
+        };
+        if self.report.is_full() {
+            return done;
         }
-        match at.next(log) {
-            Next::Done => Step {
-                walk: self,
-                taken: Taken::Done,
-            },
-            Next::Line(cut, after) => {
-                let part = cut.line;
-                let line = part.view(log);
-                let reading = Record::parse_line(line);
-                let report = before.after(at.place as u64, reading);
-                let taken = Taken::Line(part, reading);
-                // What `Tables::after` does, with each table copied once.
-                if begins(b'I', line) {
-                    let i = Held::set_by(line);
-                    let j = self.held.j;
-                    let held = Tables { i, j };
-                    return Step {
-                        walk: Walk {
-                            held,
-                            report,
-                            at: after,
-                        },
-                        taken,
-                    };
-                }
-                if begins(b'J', line) {
-                    let i = self.held.i;
-                    let j = Held::set_by(line);
-                    let held = Tables { i, j };
-                    return Step {
-                        walk: Walk {
-                            held,
-                            report,
-                            at: after,
-                        },
-                        taken,
-                    };
-                }
-                let held = self.held;
-                Step {
-                    walk: Walk {
-                        held,
-                        report, // with this line, accepted or not
-                        at: after,
-                    },
-                    taken,
-                }
+        let Some((cut, at)) = self.at.next(log) else {
+            return done;
+        };
+        let line = cut.line.view(log);
+        let reading = Record::parse_line(line);
+        // What `Tables::after` does, with each table copied once.
+        let held = if begins(b'I', line) {
+            Tables {
+                i: Held::set_by(line),
+                j: self.held.j,
             }
+        } else if begins(b'J', line) {
+            Tables {
+                i: self.held.i,
+                j: Held::set_by(line),
+            }
+        } else {
+            self.held
+        };
+        Step {
+            walk: Walk {
+                held,
+                report: self.report.after(self.at.place as u64, reading), // with this line, accepted or not
+                at,
+            },
+            taken: Some((cut.line, reading)),
         }
     }
 
     // Lookup by name on a B line, in the I lines' table in force there: the walk is the one after that line's step.
-    pub fn find_extension(self, fix: BRecord, name: Mnemonic, line: &[u8]) -> Found
-        ensures { found_res result ≡ look_up 35 fix.rest self.held.i name line.now }
+    pub fn find_extension(self, fix: BRecord, name: Mnemonic, line: &[u8]) -> Result<Part, Refusal>
+        ensures { result ≡ look_up 35 fix.rest self.held.i name line.now }
     {
-        let held = self.held.i;
-        let rest = fix.rest;
-        held.find(BRecord::BASE_LENGTH, rest, name, line)
+        self.held.i.find(BRecord::BASE_LENGTH, fix.rest, name, line)
     }
 
     // The value itself, as a part of the caller's own line.
     pub fn get_extension(self, fix: BRecord, name: Mnemonic, line: &[u8]) -> &[u8]
-        ensures { Shows line.entry
-            (shown (look_up 35 fix.rest self.held.i name line.now)) result }
+        ensures { Shows line.entry (shown (look_up 35 fix.rest self.held.i name line.now)) result }
     {
-        let held = self.held.i;
-        let rest = fix.rest;
-        held.get(BRecord::BASE_LENGTH, rest, name, line)
+        self.held.i.get(BRecord::BASE_LENGTH, fix.rest, name, line)
     }
 
     // Lookup by name on a K line, in the J lines' table in force there.
-    pub fn find_k_extension(self, k: KRecord, name: Mnemonic, line: &[u8]) -> Found
-        ensures { found_res result ≡ look_up 7 k.rest self.held.j name line.now }
+    pub fn find_k_extension(self, k: KRecord, name: Mnemonic, line: &[u8]) -> Result<Part, Refusal>
+        ensures { result ≡ look_up 7 k.rest self.held.j name line.now }
     {
-        let held = self.held.j;
-        let rest = k.rest;
-        held.find(KRecord::BASE_LENGTH, rest, name, line)
+        self.held.j.find(KRecord::BASE_LENGTH, k.rest, name, line)
     }
 
     // The value itself, as a part of the caller's own line.
     pub fn get_k_extension(self, k: KRecord, name: Mnemonic, line: &[u8]) -> &[u8]
         ensures { Shows line.entry (shown (look_up 7 k.rest self.held.j name line.now)) result }
     {
-        let held = self.held.j;
-        let rest = k.rest;
-        held.get(KRecord::BASE_LENGTH, rest, name, line)
+        self.held.j.get(KRecord::BASE_LENGTH, k.rest, name, line)
     }
 }

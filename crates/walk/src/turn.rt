@@ -3,7 +3,7 @@ ghost use Rattle.std.specs.Prelude.{◌≡◌};
 ghost use Rattle.walk.specs.Turn.{got_at};
 
 use igc_log::cut_at;
-use part::Part;
+use part::{InLine, Part};
 use records::{Reading, Record};
 
 // What was read, of which part of the log, and the place after it.
@@ -19,12 +19,9 @@ pub fn read_at(log: &[u8], at: usize) -> Got
     ensures { result ≡ got_at at log.now }
 {
     let cut = cut_at(log, at);
-    let line = cut.line;
-    let next = cut.next;
-    let reading = Record::parse_line(line.view(log));
     Got {
-        reading,
-        line,
-        next,
+        reading: Record::parse_line(cut.line.view(log)),
+        line: cut.line,
+        next: cut.next,
     }
 }

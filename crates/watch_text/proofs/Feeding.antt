@@ -1,5 +1,6 @@
 -- The loop that takes the lines of a piece, as far as there is room for their text.
-use Rattle.text.specs.Prelude.{ℕ, ◌+◌, ◌-◌, ◌≤◌, ◌<◌, ◌≡◌, Bool, true, false, List, ◌++◌, length, take, Res, largest}
+use Rattle.report.specs.Peak.{GpsPeak, PressurePeak}
+use Rattle.text.specs.Prelude.{ℕ, ◌+◌, ◌-◌, ◌≤◌, ◌<◌, ◌≡◌, Bool, true, false, List, ◌++◌, length, take, Res, Option, largest}
 use Rattle.text.proofs.Prelude.{arith, refl, sym, ap, ◌∙◌, append-nil, length-take-le, sets, yes≤, is≤, both}
 use Rattle.text.proofs.Prelude.{and}
 use Rattle.part.specs.Part.{part_bytes, bytes_of}
@@ -19,10 +20,11 @@ use Rattle.igc_log.proofs.Reached.{Reached, text_next}
 use Rattle.igc_log.proofs.Taking.{Left, left_all, left_none, left_full, left_line, next_none, next_is, Called}
 use Rattle.igc_log.proofs.Taking.{took_called, none_called}
 use Rattle.report.specs.Figures.{Figures}
-use Rattle.report.specs.Report.{below_pressure, below_gps, taken_by, pressure_in, gps_in, figures_in}
-use Rattle.report.specs.declared.{Report.Report, pressure.PressurePeak.PressurePeak, gps.GpsPeak.GpsPeak}
+use Rattle.report.specs.Peak.{range_in}
+use Rattle.report.specs.Report.{below_pressure, below_gps, taken_by, figures_in}
+use Rattle.report.specs.declared.{Report.Report}
 use Rattle.rise_text.specs.Rise.{raised, pressure_rise, gps_rise}
-use Rattle.rise_text.specs.declared.{pressure.PressureRise.PressureRise, gps.GpsRise.GpsRise}
+use Rattle.b_record.specs.declared.{height.PressureAlt.PressureAlt, height.GpsAlt.GpsAlt}
 use Rattle.watch_text.specs.Watch.{Running, risen, watcher, watch_line, watch_line_of}
 use Rattle.watch_text.specs.Feed.{Nothing, no_step, view, is_ready_of, WatchedOf, Watches}
 use Rattle.watch_text.specs.declared.{Watch.Watch, Watched.Watched}
@@ -43,10 +45,10 @@ so_ready c n place number = and (yes≤ place) (yes≤ number)
 
 -- What is held after it, from the figures before it and now.
 module _ (f : Figures PressurePeak GpsPeak) (p : ℕ) (l : List ℕ) (report : Report) where
-  pub held_after : {pressure : PressureRise} {gps : GpsRise} {m : Res Record} →
+  pub held_after : {pressure : Option PressureAlt} {gps : Option GpsAlt} {m : Res Record} →
       figures_in report ≡ taken_by f p m → m ≡ read_line_of l →
-      pressure ≡ pressure_rise (raised below_pressure f.pressure (pressure_in report.pressure)) →
-      gps ≡ gps_rise (raised below_gps f.gps (gps_in report.gps)) →
+      pressure ≡ pressure_rise (raised below_pressure f.pressure (range_in report.pressure)) →
+      gps ≡ gps_rise (raised below_gps f.gps (range_in report.gps)) →
       ◌≡◌ {A = Running} (record { report = figures_in report; pressure = pressure; gps = gps })
       (risen f (taken_by f p (read_line_of l)))
   unfolding risen

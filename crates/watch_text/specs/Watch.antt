@@ -1,27 +1,27 @@
 -- A log watched: a line wherever the running summit of a datum rises.
+use Rattle.report.specs.Peak.{GpsPeak, PressurePeak}
 use Rattle.std.specs.Prelude.{◌++◌}
-use Rattle.text.specs.Prelude.{ℕ, List, Res}
+use Rattle.text.specs.Prelude.{ℕ, List, Res, Option, None}
 use Rattle.records.specs.Record.{read_line_of}
 use Rattle.records.specs.declared.Record.{Record}
 use Rattle.igc_log.specs.Log.{Reader, LineRead, readings}
 use Rattle.igc_log.specs.Fold.{texts}
 use Rattle.report.specs.Figures.{Figures, empty}
 use Rattle.report.specs.Report.{below_pressure, below_gps, taken_by}
-use Rattle.report.specs.declared.{pressure.PressurePeak.PressurePeak, gps.GpsPeak.GpsPeak}
 use Rattle.rise_text.specs.Rise.{raised, pressure_rise, gps_rise, pressure_line, gps_line}
-use Rattle.rise_text.specs.declared.{pressure.PressureRise.PressureRise, gps.GpsRise.GpsRise}
+use Rattle.b_record.specs.declared.{height.PressureAlt.PressureAlt, height.GpsAlt.GpsAlt}
 
 -- ---- what is carried
 
 -- The report so far, and what the last line raised of either datum.
 pub record Running : Type 0 where
   pub report : Figures PressurePeak GpsPeak
-  pub pressure : PressureRise
-  pub gps : GpsRise
+  pub pressure : Option PressureAlt
+  pub gps : Option GpsAlt
 
 -- Before the first line.
 unfoldable pub nothing_raised : Running
-nothing_raised = record { report = empty; pressure = PressureRise.Same; gps = GpsRise.Same }
+nothing_raised = record { report = empty; pressure = None; gps = None }
 
 -- After a line that brought the one report to the other.
 unfoldable pub risen : Figures PressurePeak GpsPeak → Figures PressurePeak GpsPeak → Running

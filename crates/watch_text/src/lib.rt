@@ -9,20 +9,21 @@ ghost use Rattle.igc_log.specs.Fold.{past_line};
 ghost use Rattle.watch_text.specs.Watch.{watcher, watch_line};
 ghost use Rattle.watch_text.specs.Feed.{running_in, no_step, view, at_first_of, is_ready_of, WatchedOf, Watches};
 
+use b_record::{GpsAlt, PressureAlt};
 use cursor::Cursor;
 use igc_log::cut_at;
+use part::InLine;
 use records::Record;
 use report::Report;
-use rise_text::gps::GpsRise;
-use rise_text::pressure::PressureRise;
+use rise_text::{put_rise, rise};
 
-// What goes from piece to piece: the report so far, where it stands, and what the last line raised.
+// What goes from piece to piece: the report so far, where it stands, and the heights that the last line rose to.
 #[derive(Clone, Copy)]
 pub struct Watch {
     pub report: Report,
     pub at: Cursor,
-    pub pressure: PressureRise,
-    pub gps: GpsRise,
+    pub pressure: Option<PressureAlt>,
+    pub gps: Option<GpsAlt>,
 }
 
 // What is carried on, how many bytes of the piece were taken, and where the text of their lines ends.
@@ -38,13 +39,11 @@ impl Watch {
     pub fn new() -> Watch
         ensures { view result ≡ at_first_of }
     {
-        let report = Report::new();
-        let at = Cursor::new();
         Watch {
-            report,
-            at,
-            pressure: PressureRise::Same,
-            gps: GpsRise::Same,
+            report: Report::new(),
+            at: Cursor::new(),
+            pressure: None,
+            gps: None,
         }
     }
 
@@ -54,21 +53,15 @@ impl Watch {
         ensures { view result ≡ past_line watcher no_step (view self) line.now width }
     {
         let before = self.report;
-        let reading = Record::parse_line(line);
-        let report = before.after(self.at.place as u64, reading);
-        let pressure_before = before.pressure;
-        let pressure_now = report.pressure;
-        let gps_before = before.gps;
-        let gps_now = report.gps;
-        let at = Cursor {
-            place: self.at.place + width,
-            number: self.at.number + 1,
-        };
+        let report = before.after(self.at.place as u64, Record::parse_line(line));
         Watch {
             report,
-            at,
-            pressure: PressureRise::between(pressure_before, pressure_now),
-            gps: GpsRise::between(gps_before, gps_now),
+            at: Cursor {
+                place: self.at.place + width,
+                number: self.at.number + 1,
+            },
+            pressure: rise(before.pressure, report.pressure),
+            gps: rise(before.gps, report.gps),
         }
     }
 
@@ -77,21 +70,18 @@ impl Watch {
         ensures { Wrote buf.old at (watch_line self.at.number (running_in self))
             buf.new result }
     {
-        let pressure = self.pressure;
-        let gps = self.gps;
-        let number = self.at.number;
-        let at_gps = pressure.put(buf, at, number);
-        gps.put(buf, at_gps, number)
+        let at_gps = put_rise(buf, at, self.at.number, self.pressure);
+        put_rise(buf, at_gps, self.at.number, self.gps)
     }
 
     // Neither the place nor the number passes 64 bits over n bytes more.
     fn is_ready(self, n: usize) -> bool
         ensures { result ≡ is_ready_of (view self) n }
     {
-        if 0xffff_ffff_ffff_ffff - self.at.place < n {
+        if usize::MAX - self.at.place < n {
             return false;
         }
-        n as u64 <= 0xffff_ffff_ffff_ffff - self.at.number
+        n as u64 <= u64::MAX - self.at.number
     }
 }
 
@@ -103,10 +93,10 @@ fn put_ready(w: Watch, lines: &[u8], buf: &mut [u8]) -> Watched
     let mut watch = w;
     let mut taken = 0;
     let mut end = 0;
+    // A `while`, since it steps by what a line takes.
     while taken < lines.len() {
         let cut = cut_at(lines, taken);
-        let part = cut.line;
-        let line = part.view(lines);
+        let line = cut.line.view(lines);
         let after = watch.after(line, cut.next - taken);
         let to = after.put(buf, end);
         if buf.len() < to {

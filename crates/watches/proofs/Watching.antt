@@ -1,5 +1,6 @@
 -- The lines of a window, some of them at a time, and from read to read.
-use Rattle.text.specs.Prelude.{ℕ, ◌+◌, ◌-◌, ◌≤◌, ◌<◌, ◌≡◌, Bool, true, false, not, List, [], ◌++◌, length, take, drop}
+use Rattle.std.specs.Prelude.{Option, None, is_none, Result, Ok, Err, is_err}
+use Rattle.text.specs.Prelude.{ℕ, ◌+◌, ◌-◌, ◌≤◌, ◌<◌, ◌≡◌, Bool, true, false, List, [], ◌++◌, length, take, drop}
 use Rattle.text.proofs.Prelude.{arith, refl, sym, ap, ◌∙◌, append_assoc, length-drop, length-take-le}
 use Rattle.text.proofs.Prelude.{sets, take_all, never}
 use native.Mathlib.Nat.{zero-add}
@@ -11,8 +12,8 @@ use Rattle.igc_log.proofs.Pieces.{fed_none, fed_append}
 use Rattle.igc_log.proofs.Reached.{Reached}
 use Rattle.window.specs.Piece.{piece_end_of}
 use Rattle.window.proofs.Wholes.{whole_closed, whole_le}
-use Rattle.files.specs.Outcome.{has_failed_of}
-use Rattle.files.specs.declared.{input.Came.Came, outcome.Outcome.Outcome}
+use Rattle.files.specs.Outcome.{Outcome}
+use Rattle.files.specs.declared.{input.Came.Came, input.NotRead.NotRead}
 use Rattle.watch_text.specs.Watch.{Running, watcher}
 use Rattle.watch_text.specs.Feed.{Nothing, no_step, view, Watches}
 use Rattle.watch_text.specs.declared.{Watch.Watch, Watched.Watched}
@@ -36,7 +37,7 @@ module _ {w w' : Watch} {lines : List ℕ} {from : ℕ} (f : Writing w lines fro
   }
 
   -- it stopped, for a reason
-  pub failed : {o : Outcome} → has_failed_of o ≡ true → Written w lines (record { watch = w'; taken = from; outcome = o })
+  pub failed : {o : Outcome} → is_err o ≡ true → Written w lines (record { watch = w'; taken = from; outcome = o })
   failed e = record { inside = f.inside; whole = f.whole; carried = f.made; all = λ d. never e d }
 
 module _ (w w' : Watch) {lines : List ℕ} {from : ℕ} (f : Writing w lines from w') (b b' : List ℕ) (r : Watched)
@@ -68,10 +69,10 @@ goes_nowhere {c} = record { bytes = []; made = sym (fed_none watcher no_step c);
 pub goes_last_of : {c c' : Carried Running Nothing} {more : Bool} → Goes c c' more → Goes c c' false
 goes_last_of f = record { bytes = f.bytes; made = f.made; whole = λ h. never h refl }
 
--- and where more is, as the code tests it
-pub goes_more : {c c' : Carried Running Nothing} {more : Bool} → not more ≡ false → Goes c c' more → Goes c c' true
-goes_more {more = true} h f = f
-goes_more {more = false} h f = never refl h
+-- and where a read is to follow
+pub goes_more : {c c' : Carried Running Nothing} {e : Option Outcome} → e ≡ None → Goes c c' (is_none e) →
+    Goes c c' true
+goes_more h f = rw h at f
 
 -- some bytes went, and then others
 pub goes_on : {c₀ c c' : Carried Running Nothing} {more : Bool} → Goes c₀ c true → Goes c c' more → Goes c₀ c' more
@@ -89,13 +90,13 @@ module _ {w : Watch} {lines : List ℕ} {r : Went} (f : Written w lines r) where
   goes_last = record { bytes = take r.taken lines; made = f.carried; whole = λ h. never h refl }
 
   -- where nothing went wrong that is all of them
-  all_made : has_failed_of r.outcome ≡ false → view r.watch ≡ fed watcher no_step (view w) lines
+  all_made : is_err r.outcome ≡ false → view r.watch ≡ fed watcher no_step (view w) lines
   all_made h = f.carried ∙ ap (fed watcher no_step (view w)) (take_all r.taken lines (omega (arith, f.all h)))
 
   -- the end
   pub finished : {t : Turn} → t ≡ stopped r.watch r.outcome → Finished w lines t
   unfolding stopped
-  finished e = rw e (record { goes = goes_last; last = refl; made = all_made })
+  finished e = rw e (record { goes = goes_last; outcome = r.outcome; last = refl; made = all_made })
 
 -- ---- the bytes at the window's front
 
@@ -113,10 +114,10 @@ front_part win t n h k =
     rw (part, all) (append_assoc t (drop (length t) (take n win)) (drop n win) ∙ ap (λ z. t ++ z) behind)
 
 -- all their whole lines went, and the others were kept
-pub moved : {w : Watch} {win win' : List ℕ} {r : Went} {n whole fill : ℕ} {o : Outcome} → n ≤ length win →
-    whole ≡ piece_end_of false (take n win) → Written w (take whole win) r → has_failed_of r.outcome ≡ false →
+pub moved : {w : Watch} {win win' : List ℕ} {r : Went} {n whole fill : ℕ} → n ≤ length win →
+    whole ≡ piece_end_of false (take n win) → Written w (take whole win) r → is_err r.outcome ≡ false →
     fill ≡ length (take n win) - whole → win' ≡ sets (take n win) 0 (drop whole (take n win)) ++ drop n win →
-    Moves w win win' (take n win) (record { watch = r.watch; fill = fill; more = true; outcome = o })
+    Moves w win win' (take n win) (record { watch = r.watch; fill = fill; ended = None })
 unfolding piece_end_of
 moved {w} {win} {win'} {r} {n} {whole} inside e f h k l =
     let front = take n win in
@@ -130,10 +131,10 @@ moved {w} {win} {win'} {r} {n} {whole} inside e f h k l =
     )
 
 -- a turn, by what came
-pub goes_turned : (c : Came) (w : Watch) (win : List ℕ) (n : ℕ) (win' : List ℕ) (r : Turn) →
-    Turned c w win n win' r → Goes (view w) (view r.watch) r.more
+pub goes_turned : (c : Result Came NotRead) (w : Watch) (win : List ℕ) (n : ℕ) (win' : List ℕ) (r : Turn) →
+    Turned c w win n win' r → Goes (view w) (view r.watch) (is_none r.ended)
 unfolding stopped
-goes_turned (Came.Bytes k) w win n win' r t = t.0
-goes_turned Came.Ended w win n win' r t = rw t.last t.goes
-goes_turned Came.NoRoom w win n win' r t = rw t goes_nowhere
-goes_turned Came.Failed w win n win' r t = rw t goes_nowhere
+goes_turned (Ok (Came.Bytes k)) w win n win' r t = t.0
+goes_turned (Ok Came.Ended) w win n win' r t = rw t.last t.goes
+goes_turned (Ok Came.NoRoom) w win n win' r t = rw t goes_nowhere
+goes_turned (Err e) w win n win' r t = rw t goes_nowhere

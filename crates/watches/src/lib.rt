@@ -7,15 +7,16 @@ ghost use Rattle.files.specs.Input.{Behind};
 ghost use Rattle.watch_text.specs.Feed.{view, at_first_of};
 ghost use Rattle.watches.specs.Watching.{Written, Goes, Moves, Finished, Turned, stopped};
 
-use files::input::{Came, is_dash, open, read_more};
-use files::outcome::{Outcome, write_text};
+use files::input::{Came, NotRead, is_dash, open, read_more};
+use files::outcome::{Failure, Outcome, write_text};
 use files::output::write_all;
 use files::say::{fail, say_short, tell};
 use files::system::{Sink, Source, System, buffer};
 use watch_text::{Watch, put_lines};
 use window::{keep_rest, piece_end};
 
-// What is carried on, how many bytes were written, and what went wrong.
+// What is carried on, how many bytes were written, and what went wrong. It is no `Result`, since what is carried is
+// needed after a failure too.
 #[derive(Clone, Copy)]
 struct Went {
     watch: Watch,
@@ -23,17 +24,16 @@ struct Went {
     outcome: Outcome,
 }
 
-// What goes from read to read: what is carried, how many bytes wait at the window's front, and whether a read is to
-// follow.
+// What goes from read to read: what is carried, how many bytes wait at the window's front, and how it ended, if no read
+// is to follow.
 #[derive(Clone, Copy)]
 struct Turn {
     watch: Watch,
     fill: usize,
-    more: bool,
-    outcome: Outcome,
+    ended: Option<Outcome>,
 }
 
-// What was carried at last, and how it ended.
+// What was carried at last, and how it ended. It is no `Result`, since what was carried is needed after a failure too.
 #[derive(Clone, Copy)]
 struct Ended {
     watch: Watch,
@@ -46,6 +46,7 @@ fn write_lines(sys: &System, w: Watch, lines: &[u8], to: Sink, out: &mut [u8]) -
 {
     let mut watch = w;
     let mut from = 0;
+    // A `while`, since it steps by what a call takes.
     while from < lines.len() {
         let put = put_lines(watch, &lines[from..], out);
         let taken = put.taken;
@@ -54,11 +55,11 @@ fn write_lines(sys: &System, w: Watch, lines: &[u8], to: Sink, out: &mut [u8]) -
             return Went {
                 watch,
                 taken: from,
-                outcome: Outcome::NoRoom(watch.at.number),
+                outcome: Err(Failure::NoRoom(watch.at.number)),
             };
         }
         let outcome = write_text(sys, to, &mut out[0..end]);
-        if outcome.has_failed() {
+        if outcome.is_err() {
             return Went {
                 watch,
                 taken: from,
@@ -66,12 +67,12 @@ fn write_lines(sys: &System, w: Watch, lines: &[u8], to: Sink, out: &mut [u8]) -
             };
         }
         watch = put.watch;
-        from = from + taken;
+        from += taken;
     }
     Went {
         watch,
         taken: from,
-        outcome: Outcome::Done,
+        outcome: Ok(()),
     }
 }
 
@@ -81,8 +82,7 @@ fn stop(watch: Watch, outcome: Outcome) -> Turn
     Turn {
         watch,
         fill: 0,
-        more: false,
-        outcome,
+        ended: Some(outcome),
     }
 }
 
@@ -105,22 +105,21 @@ fn move_on(sys: &System, w: Watch, win: &mut [u8], n: usize, to: Sink, out: &mut
     let went = write_lines(sys, w, &win[0..whole], to, out);
     let watch = went.watch;
     let outcome = went.outcome;
-    if outcome.has_failed() {
+    if outcome.is_err() {
         return stop(watch, outcome);
     }
     let fill = keep_rest(&mut win[0..n], whole);
     Turn {
         watch,
         fill,
-        more: true,
-        outcome,
+        ended: None,
     }
 }
 
 // By what came behind the first bytes of the window.
 fn one_turn(
     sys: &System,
-    came: Came,
+    came: Result<Came, NotRead>,
     w: Watch,
     win: &mut [u8],
     fill: usize,
@@ -131,10 +130,10 @@ fn one_turn(
     ensures { Turned came w win.old fill win.new result }
 {
     match came {
-        Came::Bytes(n) => move_on(sys, w, win, fill + n, to, out),
-        Came::Ended => finish(sys, w, &win[0..fill], to, out),
-        Came::NoRoom => stop(w, Outcome::LongLine(w.at.number)),
-        Came::Failed => stop(w, Outcome::NotRead),
+        Ok(Came::Bytes(n)) => move_on(sys, w, win, fill + n, to, out),
+        Ok(Came::Ended) => finish(sys, w, &win[0..fill], to, out),
+        Ok(Came::NoRoom) => stop(w, Err(Failure::LongLine(w.at.number))),
+        Err(_) => stop(w, Err(Failure::NotRead)),
     }
 }
 
@@ -144,32 +143,29 @@ fn run(sys: &System, from: &Source, win: &mut [u8], to: Sink, out: &mut [u8]) ->
 {
     let mut watch = Watch::new();
     let mut fill = 0;
-    let mut turns: u64 = 0;
-    while turns < 0xffff_ffff_ffff_ffff {
-        turns += 1;
+    for _ in 0..u64::MAX {
         let came = read_more(sys, from, win, fill);
         let t = one_turn(sys, came, watch, win, fill, to, out);
         watch = t.watch;
         fill = t.fill;
-        if !t.more {
-            let outcome = t.outcome;
+        if let Some(outcome) = t.ended {
             return Ended { watch, outcome };
         }
     }
     Ended {
         watch,
-        outcome: Outcome::NotRead,
+        outcome: Err(Failure::NotRead),
     }
 }
 
-// A line is at most this long.
+// A line is at most this long: the room is fixed, since the project has no heap.
 fn window() -> [u8; 1048576]
     ensures { 1048576 ≡ length result }
 {
     [0; 1048576]
 }
 
-// Room for the text of many lines.
+// Room for the text of many lines, fixed for the same reason.
 fn text_buffer() -> [u8; 65536]
     ensures { 65536 ≡ length result }
 {
@@ -205,14 +201,13 @@ pub fn run_watch(sys: &System, at: usize, told: Sink) {
         return;
     }
     if words - at > 1 {
-        write_all(sys, Sink::Errors, b"tokelivo: watch takes one file\n");
+        let _ = write_all(sys, Sink::Errors, b"tokelivo: watch takes one file\n");
         return;
     }
     let mut file = buffer();
-    let n = sys.arg(at, &mut file);
-    if sys.errno() != 0 {
+    let Ok(n) = sys.arg(at, &mut file) else {
         fail(sys, b"the file's name", b"cannot be taken");
         return;
-    }
+    };
     watch_file(sys, &file[0..n], told);
 }

@@ -9,12 +9,10 @@ ghost use Rattle.window.specs.Piece.{whole_length_of, piece_end_of};
 fn whole_length(piece: &[u8]) -> usize
     ensures { result ≡ whole_length_of piece.now }
 {
-    let mut i = piece.len();
-    while 0 < i {
-        if piece[i - 1] == b'\n' {
-            return i;
+    for i in (0..piece.len()).rev() {
+        if piece[i] == b'\n' {
+            return i + 1;
         }
-        i -= 1;
     }
     0
 }
@@ -37,11 +35,6 @@ pub fn keep_rest(win: &mut [u8], from: usize) -> usize
     if win.len() < from {
         return 0;
     }
-    let n = win.len() - from;
-    let mut i = 0;
-    while i < n {
-        win[i] = win[from + i];
-        i += 1;
-    }
-    n
+    win.copy_within(from.., 0);
+    win.len() - from
 }

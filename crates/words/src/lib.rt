@@ -86,19 +86,19 @@ fn run_on_many(sys: &System, word: &[u8], at: usize, told: Sink) -> bool {
     false
 }
 
-// By the word at `at`.
+// By the word at `at`. The rooms here are fixed, since there is no heap.
 fn run_from(sys: &System, at: usize, told: Sink)
     requires { at ≤ 2 }
 {
     let mut word = [0u8; 16];
-    let n = sys.arg(at, &mut word);
+    let n = sys.arg(at, &mut word).unwrap_or(0);
     if run_on_one(sys, &word[0..n], at + 1, told) {
         return;
     }
     if run_on_many(sys, &word[0..n], at + 1, told) {
         return;
     }
-    write_all(
+    let _ = write_all(
         sys,
         Sink::Errors,
         b"tokelivo: none of list, fields, positions, season, join, watch, moment, claim and task is asked for\n",
@@ -110,7 +110,7 @@ fn run_from(sys: &System, at: usize, told: Sink)
 // 3: where nothing went wrong, 0 is written there, and 1 where a claim's verdict is no.
 pub fn run_words(sys: &System) {
     let mut word = [0u8; 8];
-    let n = sys.arg(1, &mut word);
+    let n = sys.arg(1, &mut word).unwrap_or(0);
     let told = descriptor(word, n);
     if let Sink::Nowhere = told {
         run_from(sys, 1, told);

@@ -1,4 +1,4 @@
-use Rattle.std.proofs.Common.{rules, ◌≡◌, sym, ◌∙◌, drop}
+use Rattle.std.proofs.Common.{◌≡◌, sym, ◌∙◌, drop}
 use Rattle.text.specs.Prelude.{pick}
 use Rattle.task_line.specs.Lines.{task_lines}
 use Rattle.task.specs.Sheet.{sheet, refused, sheet_from}

@@ -1,6 +1,6 @@
 use Rattle.text.specs.Prelude.{◌≡◌, true}
 use borrow.Author.Tests.{not-true, not-false}
-use Rattle.text.proofs.Prelude.{rules, refl, so_true, so_false}
+use Rattle.text.proofs.Prelude.{rules}
 use Rattle.text.specs.Spelt.{spelt_from, spelt}
 use Rattle.block_read.specs.Block.{read_count}
 use Rattle.block_read.proofs.Numbers.{some_read, none_read}

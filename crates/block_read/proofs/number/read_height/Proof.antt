@@ -1,6 +1,6 @@
 use Rattle.text.specs.Prelude.{ℕ, ◌≤◌, ◌≡◌, true, pos}
 use borrow.Author.Tests.{not-true, not-false}
-use Rattle.text.proofs.Prelude.{rules, arith, refl, so_true, so_false}
+use Rattle.text.proofs.Prelude.{rules, arith}
 use lib.IntN.{neg_ℤ}
 use mir.Syntax.{w16, w32}
 use mir.Facts.{to_z_pos}

@@ -1,6 +1,6 @@
 use Rattle.text.specs.Prelude.{ℕ, ◌-◌, ◌≤◌, ◌<◌, ◌≡◌, List, [], ◌∷◌, ◌++◌, length, take, replicate, largest}
 use Rattle.text.specs.Prelude.{padded}
-use Rattle.text.proofs.Prelude.{rules, arith, came}
+use Rattle.text.proofs.Prelude.{rules, arith, ap, came}
 use Rattle.put.specs.Put.{Wrote}
 use Rattle.put.proofs.Writing.{then, wrote_length}
 use Rattle.block_read.specs.Read.{front_from}
@@ -15,15 +15,15 @@ use Rattle.block_read.proofs.number.read_number.Tie as tie
 abbrev front : tie.Start → ℕ
 front b = front_from 0 (here (b.args.text.now) b.args.from)
 
-fits : (c : tie.In-Value) → c.in-Value.value ≡ front (search rules)
-fits c = front_some _ (came front_in c.in-Value.is c.before.front.ensures)
+fits : (c : tie.In-Some) → c.in-Some.value ≡ front (search rules)
+fits c = front_some _ (came (ap front_in c.in-Some.is) c.before.front.ensures)
 
 over : (c : tie.In_default) → largest < front (search rules)
-over c = front_none _ (came front_in c.in_default.is c.before.front.ensures)
+over c = front_none _ (came (ap front_in c.in_default.is) c.before.front.ensures)
 
 -- the number as it prints, and the byte that closes it
 abbrev closed : tie.Else-most-value → List ℕ
-closed e = padded 1 e.before.in-Value.value ++
+closed e = padded 1 e.before.in-Some.value ++
     (e.before.before.before.before.args.close ∷ [])
 
 printed : (c : tie.After-put_byte-end) →

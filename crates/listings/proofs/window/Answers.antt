@@ -1,0 +1,5 @@
+use Rattle.files.proofs.Zeros.{zeros_long}
+use Rattle.listings.proofs.window.Goals as goal
+
+pub returns : goal.returns
+returns c = zeros_long 1048576 0

@@ -1,0 +1,5 @@
+use Rattle.put.proofs.Writing.{then}
+use Rattle.sheet_text.proofs.heights.put_height.Goals as goal
+
+pub returns : goal.returns
+returns g c = search (then)

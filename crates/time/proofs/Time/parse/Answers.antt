@@ -1,0 +1,16 @@
+use Rattle.text.proofs.Prelude.{◌∙◌, so_true, so_false}
+use Rattle.field.proofs.Fields.{wrong_length, not_ascii, field_of_ascii}
+use Rattle.time.specs.Time.{read_time_of, time_in}
+use Rattle.time.proofs.Time.parse.Goals as goal
+
+pub returns-then-text-ne6 : goal.returns-then-text-ne6
+unfolding read_time_of
+returns-then-text-ne6 c = wrong_length _ _ _ c.if-text-ne6.true
+
+pub returns-then-not-is_ascii : goal.returns-then-not-is_ascii
+unfolding read_time_of
+returns-then-not-is_ascii c = not_ascii _ _ _ c.if-text-ne6.false (so_false c.is_ascii.ensures c.if-not-is_ascii.true)
+
+pub returns : goal.returns
+unfolding read_time_of time_in
+returns c = c.parse_ascii.ensures ∙ field_of_ascii _ _ _ (so_true c.is_ascii.ensures c.if-not-is_ascii.false)

@@ -1,9 +1,0 @@
-use Rattle.text.proofs.Prelude.{rules}
-use Rattle.print.proofs.Printing.{no_room, written}
-use Rattle.time.proofs.Time.print.Statement.{statement}
-use Rattle.time.proofs.Time.print.Tie as tie
-
-pub print_spec : {M : Type 1} → statement M
-print_spec =
-    tie.close (tie.spec (search rules) (search rules) (λ c. search (no_room)) (search rules) (search rules)
-    (λ c. search (written)))
