@@ -1,11 +1,12 @@
 // Heights over all logs. Pressure and GPS heights are types apart.
 ghost use Rattle.std.specs.Prelude.{◌≤◌, length};
+ghost use Rattle.text.specs.Spelt.{spelt};
 ghost use Rattle.report.specs.Peak.{range_in};
-ghost use Rattle.block_read.specs.Block.{read_height_at, range_by};
+ghost use Rattle.block_read.specs.Block.{read_height_at, range_by, read_range, read_pressure, read_gps};
 ghost use Rattle.block_read.specs.Held.{Came};
 
 use crate::number::{Place, read_spot, read_words};
-use b_record::Height;
+use b_record::{GpsAlt, Height, PressureAlt};
 use report::range::Extremes;
 use span::Spot;
 
@@ -38,7 +39,7 @@ fn read_height<H: Height>(text: &[u8], from: Place, words: &[u8]) -> SpotRead<H>
 }
 
 // None, where those words stand; or the highest and then the lowest, each behind its words.
-pub(crate) fn read_span<H: Height>(
+fn read_span<H: Height>(
     text: &[u8],
     from: Place,
     none: &[u8],
@@ -65,4 +66,28 @@ pub(crate) fn read_span<H: Height>(
         }),
         place: lowest.place,
     }
+}
+
+// The pressure heights, by the words of their lines.
+pub(crate) fn read_pressure(text: &[u8], from: Place) -> SpanRead<PressureAlt>
+    requires { from.at ≤ length text.now }
+    ensures { Came text.now from (read_range read_pressure (spelt "pressure")) result.place
+        (range_in result.span) }
+{
+    read_span(
+        text,
+        from,
+        b"pressure none\n",
+        b"pressure high ",
+        b"pressure low ",
+    )
+}
+
+// The GPS heights, by the words of theirs.
+pub(crate) fn read_gps(text: &[u8], from: Place) -> SpanRead<GpsAlt>
+    requires { from.at ≤ length text.now }
+    ensures { Came text.now from (read_range read_gps (spelt "gps")) result.place
+        (range_in result.span) }
+{
+    read_span(text, from, b"gps none\n", b"gps high ", b"gps low ")
 }

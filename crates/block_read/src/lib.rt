@@ -13,7 +13,7 @@ ghost use Rattle.block_read.specs.Block.{read_all, block_of, block_read};
 ghost use Rattle.block_read.specs.Held.{Came};
 
 use crate::answers::read_answers;
-use crate::heights::read_span;
+use crate::heights::{read_gps, read_pressure};
 use crate::number::{Place, read_line, stands};
 use crate::times::read_times;
 use total::Total;
@@ -34,20 +34,8 @@ fn read_all(text: &[u8], from: Place) -> AllRead
     let lines = read_line(text, logs.place, b"lines ");
     let counts = read_answers(text, lines.place);
     let fixes = read_line(text, counts.place, b"fixes ");
-    let pressure = read_span(
-        text,
-        fixes.place,
-        b"pressure none\n",
-        b"pressure high ",
-        b"pressure low ",
-    );
-    let gps = read_span(
-        text,
-        pressure.place,
-        b"gps none\n",
-        b"gps high ",
-        b"gps low ",
-    );
+    let pressure = read_pressure(text, fixes.place);
+    let gps = read_gps(text, pressure.place);
     let times = read_times(text, gps.place);
     let answers = counts.counts;
     let total = Total {

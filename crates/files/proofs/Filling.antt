@@ -11,9 +11,9 @@ ended_inside (Ok (Filled.Ended n)) f = omega (arith, f.inside.1, f.long)
 ended_inside (Ok Filled.Full) f = tt
 ended_inside (Err e) f = tt
 
--- bytes that came are inside
+-- bytes that came are some, and inside
 pub came_inside : (r : Result Came NotRead) {from : ℕ} {b b' : List ℕ} → MoreBehind from b b' r → Behind from b' r
-came_inside (Ok (Came.Bytes n)) f = omega (arith, f.inside, f.long)
+came_inside (Ok (Came.Bytes n)) f = (f.inside.0, omega (arith, f.inside.1, f.long))
 came_inside (Ok Came.Ended) f = omega (arith, f.inside, f.long)
 came_inside (Ok Came.NoRoom) f = omega (arith, f.inside, f.long)
 came_inside (Err e) f = tt

@@ -1,8 +1,8 @@
 -- What one call of `read` or of `write` did.
-use Rattle.std.specs.Prelude.{◌+◌, ◌≤◌, Option, Some, None, Result, Ok, Err, IfOk}
+use Rattle.std.specs.Prelude.{◌+◌, ◌≤◌, ◌<◌, Option, Some, None, IfSome, Result, Ok, Err, IfOk}
 use Rattle.std.specs.IoError.{raw_os_error}
 use Rattle.std.specs.declared.io.Error.{Error}
-use Rattle.text.specs.Prelude.{ℕ, Bool, false, List, length, ℤ, pos, negsuc, pick, ◌=?◌}
+use Rattle.text.specs.Prelude.{ℕ, zero, suc, Bool, false, List, length, ℤ, pos, negsuc, pick, ◌=?◌}
 use Rattle.files.specs.declared.call.CallError.{CallError}
 
 -- errno is that number.
@@ -17,11 +17,12 @@ call_error_of why =
     pick (is_errno 4 (raw_os_error why)) CallError.Again
     (pick (is_errno 32 (raw_os_error why)) CallError.Closed CallError.Failed)
 
--- By its answer, how many bytes it moved, or why it failed.
-abbrev pub did_of : Result ℕ Error → Result ℕ CallError
-did_of (Ok n) = Ok n
+-- By its answer, that it moved no byte, how many it moved, or why it failed.
+abbrev pub did_of : Result ℕ Error → Result (Option ℕ) CallError
+did_of (Ok zero) = Ok None
+did_of (Ok (suc n)) = Ok (Some (suc n))
 did_of (Err why) = Err (call_error_of why)
 
--- No more bytes were moved than there are from the place on.
-abbrev pub NoMoreThan : {E : Type 0} → ℕ → List ℕ → Result ℕ E → Type 0
-NoMoreThan at b r = IfOk r (λ n. at + n ≤ length b)
+-- Where some bytes were moved, these are one or more, and no more than there are from the place on.
+abbrev pub NoMoreThan : {E : Type 0} → ℕ → List ℕ → Result (Option ℕ) E → Type 0
+NoMoreThan at b r = IfOk r (λ m. IfSome m (λ n. (0 < n) × (at + n ≤ length b)))

@@ -1,5 +1,5 @@
 -- Lent bytes that are filled by calls of `read`. Which bytes these bring no contract says.
-use Rattle.std.specs.Prelude.{◌+◌, ◌≤◌, ◌<◌, ◌≡◌, Result, Ok, Err}
+use Rattle.std.specs.Prelude.{◌+◌, ◌≤◌, ◌<◌, ◌≡◌, Option, Result, Ok, Err}
 use Rattle.text.specs.Prelude.{ℕ, code, Bool, List, length, take, ◌=?◌, ◌∧?◌, byte}
 use Rattle.files.specs.Call.{NoMoreThan}
 use Rattle.files.specs.declared.input.{Filled.Filled, Came.Came, NotRead.NotRead}
@@ -9,7 +9,7 @@ unfoldable pub is_dash_of : List ℕ → Bool
 is_dash_of s = (length s =? 1) ∧? (byte 0 s =? code "-")
 
 -- The first `at` of the lent bytes stay.
-pub record CameBehind (at : ℕ) (b b' : List ℕ) (r : Result ℕ NotRead) : Type 0 where
+pub record CameBehind (at : ℕ) (b b' : List ℕ) (r : Result (Option ℕ) NotRead) : Type 0 where
   pub long : length b' ≡ length b
   pub front : take at b' ≡ take at b
   pub room : NoMoreThan at b r
@@ -32,9 +32,10 @@ pub record FilledBehind (from : ℕ) (b b' : List ℕ) (r : Result Filled NotRea
   pub front : take from b' ≡ take from b
   pub inside : Ends from b r
 
--- Bytes that came have room behind the first ones, and so would any where the input ended; where none have none came.
+-- Bytes that came are one or more and have room behind the first ones, and so would any where the input ended; where
+-- none have none came.
 abbrev pub Behind : ℕ → List ℕ → Result Came NotRead → Type 0
-Behind from b (Ok (Came.Bytes n)) = from + n ≤ length b
+Behind from b (Ok (Came.Bytes n)) = (0 < n) × (from + n ≤ length b)
 Behind from b (Ok Came.Ended) = from < length b
 Behind from b (Ok Came.NoRoom) = length b ≤ from
 Behind from b (Err e) = Unit

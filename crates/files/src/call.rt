@@ -29,9 +29,12 @@ impl From<io::Error> for CallError {
     }
 }
 
-// How many bytes it moved, 0 where there were none: no error is ever an answer of 0.
-pub fn did_by(got: io::Result<usize>) -> Result<usize, CallError>
+// How many bytes it moved, or that it moved none: no error is ever an answer of 0, and no answer of 0 is some bytes.
+pub fn did_by(got: io::Result<usize>) -> Result<Option<usize>, CallError>
     ensures { result ≡ did_of got }
 {
-    Ok(got?)
+    match got? {
+        0 => Ok(None),
+        n => Ok(Some(n)),
+    }
 }

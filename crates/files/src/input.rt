@@ -24,15 +24,20 @@ pub enum Came {
     NoRoom,
 }
 
-// One call, behind the first bytes, made again where a signal interrupted it: how many bytes came, 0 at the end.
-fn read_some(sys: &System, from: &Source, buf: &mut [u8], at: usize) -> Result<usize, NotRead>
+// One call, behind the first bytes, made again where a signal interrupted it: how many bytes came, or none at the end.
+fn read_some(
+    sys: &System,
+    from: &Source,
+    buf: &mut [u8],
+    at: usize,
+) -> Result<Option<usize>, NotRead>
     requires { at ≤ length buf.old }
     ensures { CameBehind at buf.old buf.new result }
 {
     for _ in 0..u64::MAX {
         let got = sys.read(from, &mut buf[at..]);
         match did_by(got) {
-            Ok(n) => return Ok(n),
+            Ok(some) => return Ok(some),
             Err(CallError::Again) => {}
             Err(_) => return Err(NotRead),
         }
@@ -51,11 +56,10 @@ pub fn read_on(
 {
     let mut at = from;
     while at < buf.len() {
-        let n = read_some(sys, source, buf, at)?;
-        if n == 0 {
-            return Ok(Filled::Ended(at));
+        match read_some(sys, source, buf, at)? {
+            None => return Ok(Filled::Ended(at)),
+            Some(n) => at += n,
         }
-        at += n;
     }
     Ok(Filled::Full)
 }
@@ -73,8 +77,8 @@ pub fn read_more(
         return Ok(Came::NoRoom);
     }
     match read_some(sys, source, buf, from)? {
-        0 => Ok(Came::Ended),
-        n => Ok(Came::Bytes(n)),
+        None => Ok(Came::Ended),
+        Some(n) => Ok(Came::Bytes(n)),
     }
 }
 

@@ -14,14 +14,14 @@ pub enum WriteError {
 }
 
 // One call, of the text from a place on, made again where a signal interrupted it.
-fn write_some(sys: &System, to: Sink, text: &[u8], at: usize) -> Result<usize, WriteError>
+fn write_some(sys: &System, to: Sink, text: &[u8], at: usize) -> Result<Option<usize>, WriteError>
     requires { at ≤ length text.now }
     ensures { NoMoreThan at text.now result }
 {
     for _ in 0..u64::MAX {
         let got = sys.write(to, &text[at..]);
         match did_by(got) {
-            Ok(n) => return Ok(n),
+            Ok(some) => return Ok(some),
             Err(CallError::Again) => {}
             Err(CallError::Closed) => return Err(WriteError::Closed),
             Err(CallError::Failed) => return Err(WriteError::Failed),
@@ -36,11 +36,10 @@ pub fn write_all(sys: &System, to: Sink, text: &[u8]) -> Result<(), WriteError>
 {
     let mut at = 0;
     while at < text.len() {
-        let n = write_some(sys, to, text, at)?;
-        if n == 0 {
-            return Err(WriteError::Failed);
+        match write_some(sys, to, text, at)? {
+            None => return Err(WriteError::Failed),
+            Some(n) => at += n,
         }
-        at += n;
     }
     Ok(())
 }

@@ -6,17 +6,56 @@ use field::Mnemonic;
 use gate_say as say;
 use manufacturer::Manufacturer;
 use position::RawPosition;
-use print::printed::{Piece, print_piece};
 use raw_coord::Compass;
 use text::refusal::Refusal;
 use time::Time;
 
-// The field that was read or made, printed into the lent bytes (by `print_piece`, which is what its `print` is), or why
-// there is none.
-fn answer<P: Piece + Copy>(rt: HostRuntime, read: Result<P, Refusal>, buf: &mut [u8]) {
+// A field that prints by a `print` of its own, which is what is run here.
+trait Field: Copy {
+    fn print_field(self, buf: &mut [u8]) -> Result<usize, Refusal>;
+}
+
+impl Field for Time {
+    fn print_field(self, buf: &mut [u8]) -> Result<usize, Refusal> {
+        self.print(buf)
+    }
+}
+
+impl Field for Date {
+    fn print_field(self, buf: &mut [u8]) -> Result<usize, Refusal> {
+        self.print(buf)
+    }
+}
+
+impl Field for RawLatitude {
+    fn print_field(self, buf: &mut [u8]) -> Result<usize, Refusal> {
+        self.print(buf)
+    }
+}
+
+impl Field for RawLongitude {
+    fn print_field(self, buf: &mut [u8]) -> Result<usize, Refusal> {
+        self.print(buf)
+    }
+}
+
+impl Field for RawPosition {
+    fn print_field(self, buf: &mut [u8]) -> Result<usize, Refusal> {
+        self.print(buf)
+    }
+}
+
+impl Field for Extension {
+    fn print_field(self, buf: &mut [u8]) -> Result<usize, Refusal> {
+        self.print(buf)
+    }
+}
+
+// The field that was read or made, printed into the lent bytes, or why there is none.
+fn answer<F: Field>(rt: HostRuntime, read: Result<F, Refusal>, buf: &mut [u8]) {
     match read {
         Ok(field) => {
-            let p = print_piece(field, buf);
+            let p = field.print_field(buf);
             say::printed(rt, p, buf);
         }
         Err(no) => say::refused(rt, no),
@@ -42,7 +81,7 @@ fn date(rt: HostRuntime, text: &[u8]) {
 }
 
 // A latitude or a longitude.
-fn answer_axis<A: Axis>(rt: HostRuntime, read: Result<A, Refusal>) {
+fn answer_axis<A: Axis + Field>(rt: HostRuntime, read: Result<A, Refusal>) {
     answer(rt, read, &mut [b'.'; 10]);
 }
 

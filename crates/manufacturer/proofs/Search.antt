@@ -1,11 +1,10 @@
 -- The list of makers: who stands at a place, the search from a place on, and what a row tells of its maker's codes.
-use Rattle.text.specs.Prelude.{◌+◌, ◌<◌, ◌≤◌, ◌≡◌, ℕ, Option, Some, Bool, true, false, drop, get_or, pick, ◌=?◌, ◌∧?◌}
-use Rattle.text.proofs.Prelude.{refl, drop-cons, drop_of_length-le}
-use mathlib.Core.Bool.{◌&&◌}
-use lib.Dec.{eqb}
+use Rattle.text.specs.Prelude.{ℕ, ◌+◌, ◌/◌, ◌%◌, ◌<◌, ◌≤◌, ◌≡◌, Option, Some, Bool, true, false, drop, get_or, pick, ◌=?◌, ◌∧?◌}
+use Rattle.text.proofs.Prelude.{arith, refl, sym, ap, ◌∙◌, yes=, and, drop-cons, drop_of_length-le}
 use native.Mathlib.Numerals.{add-one}
 use Rattle.field.specs.declared.Mnemonic.{Mnemonic}
-use Rattle.manufacturer.specs.Maker.{known, first_of, is_triple}
+use Rattle.manufacturer.specs.Maker.{known, first_of, is_triple, triple_number}
+use Rattle.manufacturer.proofs.Codes.{is_triple_lem}
 use Rattle.manufacturer.specs.declared.{Manufacturer.Manufacturer}
 
 -- ---- places
@@ -29,13 +28,31 @@ module _ (test : Manufacturer → Bool) (other : Manufacturer) (place : ℕ) whe
 
 -- ---- what a row tells of its maker's triple
 
-and_test : (a b : Bool) → (a && b) ≡ (a ∧? b)
-unfolding ◌∧?◌ pick
-and_test true b = refl
-and_test false b = refl
+isnt : (b : Bool) → (b ≡ true → ⊥) → b ≡ false
+isnt true h = absurd (h refl)
+isnt false h = refl
 
--- the comparison of its three bytes is the test
-pub triple_tested : (t : Mnemonic) {u : Mnemonic} {x : Option Mnemonic} → Some u ≡ x
-    → (eqb t.0 u.0 && (eqb t.1 u.1 && eqb t.2 u.2)) ≡ is_triple t x
-unfolding is_triple ◌=?◌
-triple_tested t {u} row = rw (← row) (simp and_test)
+-- a number tells its three bytes
+abbrev triple_bytes : ℕ → Mnemonic
+triple_bytes n = (n / 65536, n / 256 % 256, n % 256)
+
+triple_bytes_number : (t : Mnemonic) → t.1 < 256 → t.2 < 256 → t ≡ triple_bytes (triple_number t)
+unfolding triple_number
+triple_bytes_number t g h =
+    let a : t.0 ≡ triple_number t / 65536 = omega arith in
+    let b : t.1 ≡ triple_number t / 256 % 256 = omega arith in
+    let c : t.2 ≡ triple_number t % 256 = omega arith in
+    let e : ◌≡◌ {A = Mnemonic} (t.0, t.1, t.2) (triple_bytes (triple_number t)) = cc in
+    e
+
+module _ (t : Mnemonic) {u : Mnemonic} {x : Option Mnemonic} (row : Some u ≡ x) where
+  pub triple_found : t.1 < 256 → t.2 < 256 → u.1 < 256 → u.2 < 256 → triple_number u ≡ triple_number t → is_triple t x
+      ≡ true
+  unfolding is_triple
+  triple_found a b c d e =
+      let same = triple_bytes_number u c d ∙ ap triple_bytes e ∙ sym (triple_bytes_number t a b) in
+      ap (is_triple t) (sym row ∙ ap Some same) ∙ and (yes= refl) (and (yes= refl) (yes= refl))
+
+  pub triple_passed : (triple_number u ≡ triple_number t → ⊥) → is_triple t x ≡ false
+  triple_passed n = isnt (is_triple t x) (λ h. let e = row ∙ is_triple_lem x h in let same : u ≡ t = cc in
+      n (ap triple_number same))

@@ -1,6 +1,6 @@
 -- Makers of recorders: their codes, and the maker that a code is read as.
 use Rattle.text.specs.Prelude.{None, Option, Some}
-use Rattle.std.specs.Prelude.{◌∷◌}
+use Rattle.std.specs.Prelude.{◌+◌, ◌*◌, ◌∷◌}
 use Rattle.text.specs.Prelude.{ℕ, zero, suc, code, String, char_at, Bool, false, List, [], pick, ◌=?◌, ◌∧?◌}
 use Rattle.field.specs.declared.Mnemonic.{Mnemonic}
 use Rattle.manufacturer.specs.declared.{Manufacturer.Manufacturer}
@@ -103,3 +103,7 @@ triple_maker t = first_of (λ m. is_triple t (triple_of m)) (Manufacturer.Unknow
 abbrev pub row_letter : ℕ → Option ℕ
 row_letter zero = None
 row_letter (suc b) = Some (suc b)
+
+-- Three bytes as one number.
+unfoldable pub triple_number : Mnemonic → ℕ
+triple_number t = t.0 * 65536 + t.1 * 256 + t.2

@@ -3,7 +3,7 @@
 #![tactic(auto)]
 
 ghost use Rattle.std.specs.Prelude.{◌≡◌, ℕ, ◌<◌, get_or};
-ghost use Rattle.manufacturer.specs.Maker.{letter_of_lem, triple_of, known, letter_maker, triple_maker};
+ghost use Rattle.manufacturer.specs.Maker.{letter_of_lem, triple_of, known, letter_maker, triple_maker, triple_number};
 ghost use Rattle.manufacturer.specs.Maker.{row_letter, is_letter};
 
 use Manufacturer::*;
@@ -90,6 +90,13 @@ fn has_letter(row: Row, letter: u8) -> bool
     row.0 == letter && letter != NONE
 }
 
+// Three bytes as one number, so that one comparison decides on all of them.
+fn number(triple: Mnemonic) -> u32
+    ensures { result ≡ triple_number triple }
+{
+    (triple.0 as u32) * 65536 + (triple.1 as u32) * 256 + (triple.2 as u32)
+}
+
 impl Manufacturer {
     // The maker of a letter; a letter that no maker has is carried.
     #[tactic(auto, unfolding(crate::specs::Maker::letter_maker))]
@@ -110,9 +117,10 @@ impl Manufacturer {
     pub fn parse_triple_char(triple: Mnemonic) -> Manufacturer
         ensures { result ≡ triple_maker triple }
     {
+        let wanted = number(triple);
         for place in 0..KNOWN {
             let row = listed(place);
-            if triple == row.1 {
+            if number(row.1) == wanted {
                 return row.2;
             }
         }

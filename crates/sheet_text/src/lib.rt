@@ -22,8 +22,8 @@ fn put_report(buf: &mut [u8], at: usize, report: Report) -> usize
 {
     let answers = report.answers;
     let at_pressure = put_counts(buf, at, report.lines, answers, report.fixes);
-    let at_gps = put_range(buf, at_pressure, b"pressure", report.pressure);
-    let at_times = put_range(buf, at_gps, b"gps", report.gps);
+    let at_gps = put_range(buf, at_pressure, report.pressure);
+    let at_times = put_range(buf, at_gps, report.gps);
     put_times(buf, at_times, report.times)
 }
 
@@ -34,8 +34,8 @@ fn put_total(buf: &mut [u8], at: usize, total: Total) -> usize
 {
     let answers = total.answers;
     let at_pressure = put_counts(buf, at, total.lines, answers, total.fixes);
-    let at_gps = put_range(buf, at_pressure, b"pressure", total.pressure);
-    let at_times = put_range(buf, at_gps, b"gps", total.gps);
+    let at_gps = put_range(buf, at_pressure, total.pressure);
+    let at_times = put_range(buf, at_gps, total.gps);
     put_times(buf, at_times, total.times)
 }
 

@@ -1,16 +1,16 @@
-use Rattle.text.proofs.Prelude.{refl, ◌∙◌, first, second, so_true, so_false}
-use Rattle.manufacturer.proofs.Search.{turn, ended, triple_tested}
+use Rattle.text.proofs.Prelude.{rules, refl, ◌∙◌, first, second}
+use Rattle.manufacturer.proofs.Search.{turn, ended, triple_found, triple_passed}
 use Rattle.manufacturer.proofs.Manufacturer.parse_triple_char.Goals as goal
 
-pub returns-then-eq : goal.returns-then-eq
-returns-then-eq c =
-    first _ (so_true (c.eq.ensures ∙ triple_tested _ c.listed-row.ensures.1) c.if-eq.true) refl
+pub returns-then-number-wanted : goal.returns-then-number-wanted
+returns-then-number-wanted c =
+    first _ (triple_found _ c.listed-row.ensures.1 (search rules) (search rules) (search rules) (search rules) (cc)) refl
     ∙ turn _ _ _ c.loop-place-test.true c.listed-row.ensures.0
     ∙ c.loop-place.invariant
 
 pub loop-place-preserved : goal.loop-place-preserved
 loop-place-preserved c =
-    second _ (so_false (c.eq.ensures ∙ triple_tested _ c.listed-row.ensures.1) c.if-eq.false) refl
+    second _ (triple_passed _ c.listed-row.ensures.1 (λ e. c.if-number-wanted.false (cc))) refl
     ∙ turn _ _ _ c.loop-place-test.true c.listed-row.ensures.0
     ∙ c.loop-place.invariant
 
